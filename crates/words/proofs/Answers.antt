@@ -1,0 +1,88 @@
+-- Which words are accepted, what a look at a word tells a caller, and that the number of a refusal tells the refusal. Assumes nothing.
+use Prim.Native.Nat.{ℕ, _-_, _^_, _≤_, _<_}
+use mathlib.Core.Path.{_≡_, refl, sym, _∙_, ap}
+use mathlib.Core.Logic.{_↔_}
+use mathlib.Core.Bool.{Bool, true, false}
+use mathlib.Core.List.{List, [], _∷_}
+use native.Mathlib.Omega.{arith}
+use lib.Dec.{leb}
+use lib.ListN.{getD}
+use borrow.Author.Tests.{leb-true, le-leb}
+use Rattle.words.specs.Sets.{ClosedUnderAddition}
+use Rattle.words.specs.Words.{setOf, genus, closed}
+use Rattle.words.specs.declared.Refusal.{Refusal}
+use Rattle.words.specs.declared.Refusal.the-variants.{TooManyGaps, NotClosed, GenusTooLarge, WalkOutOfOrder, NotAGenerator, ListTooShort, ZeroGenerator, CommonDivisor, TooManyGapsGenerated, MalformedInput}
+use Rattle.words.specs.declared.Report.{Report}
+use Rattle.words.specs.Answers.{Answer, refused, given, numberOf, ask, askWord, reportOf, lookOf}
+use Rattle.words.proofs.Closure.{closed-iff}
+
+-- ---- numbers of refusals
+
+-- the refusals by their number
+refusals : List Refusal
+refusals =
+    TooManyGaps ∷ NotClosed ∷ GenusTooLarge ∷ WalkOutOfOrder ∷ NotAGenerator ∷ ListTooShort ∷ ZeroGenerator ∷ CommonDivisor
+    ∷ TooManyGapsGenerated ∷ MalformedInput ∷ []
+
+refusalOf : ℕ → Refusal
+refusalOf n = getD refusals (n - 1) MalformedInput
+
+refusal-of-number : (r : Refusal) → refusalOf (numberOf r) ≡ r
+unfolding refusals refusalOf
+refusal-of-number TooManyGaps = refl
+refusal-of-number NotClosed = refl
+refusal-of-number GenusTooLarge = refl
+refusal-of-number WalkOutOfOrder = refl
+refusal-of-number NotAGenerator = refl
+refusal-of-number ListTooShort = refl
+refusal-of-number ZeroGenerator = refl
+refusal-of-number CommonDivisor = refl
+refusal-of-number TooManyGapsGenerated = refl
+refusal-of-number MalformedInput = refl
+
+-- no two refusals have the same number, so that an equation of answers leaves no case of an enum free
+pub number-decides : (r s : Refusal) → numberOf r ≡ numberOf s → r ≡ s
+number-decides r s e = sym (refusal-of-number r) ∙ ap refusalOf e ∙ refusal-of-number s
+
+-- ---- accepted words
+
+-- the word is accepted: its set is closed under addition, and it has at most 32 gaps
+pub record Accepted (w : ℕ) : Type 0 where
+  pub sums : closed w ≡ true
+  pub few : genus w ≤ 32
+
+module _ {A : Type 0} (refuse : ℕ → A) (w : ℕ) (answer : A) where
+  -- an accepted word is not refused
+  pub asked : Accepted w → askWord refuse w answer ≡ answer
+  unfolding askWord
+  asked h = simp (le-leb (genus w) 32 (h .few), h .sums)
+
+  -- a word that is refused by a look is refused so by each call
+  pub asked-refused : (n : ℕ) → lookOf w ≡ refused n → askWord refuse w answer ≡ refuse n
+  unfolding lookOf askWord
+  asked-refused n e = by-questions (leb (genus w) 32) (closed w) e
+    where
+      by-questions : (few sums : Bool) → ask few (refused 1) (ask sums (refused 2) (given (reportOf w))) ≡ refused n
+          → ask few (refuse 1) (ask sums (refuse 2) answer) ≡ refuse n
+      by-questions true true e = let z : _≡_ {A = ℕ} 0 1 = cc in absurd (omega arith)
+      by-questions true false e = let same : 2 ≡ n = cc in ap refuse same
+      by-questions false sums e = let same : 1 ≡ n = cc in ap refuse same
+
+-- a report is given just of accepted words, and it is theirs
+pub look-given : (w : ℕ) (r : Report) → lookOf w ≡ given r → Accepted w × (r ≡ reportOf w)
+unfolding lookOf askWord
+look-given w r e = by-questions (leb (genus w) 32) refl (closed w) refl e
+  where
+    by-questions : (few : Bool) → leb (genus w) 32 ≡ few → (sums : Bool) → closed w ≡ sums
+        → ask few (refused 1) (ask sums (refused 2) (given (reportOf w))) ≡ given r → Accepted w × (r ≡ reportOf w)
+    by-questions true p true q e = let same : r ≡ reportOf w = cc in (record { sums = q; few = leb-true (genus w) 32 p }, same)
+    by-questions true p false q e = let z : _≡_ {A = ℕ} 0 1 = cc in absurd (omega arith)
+    by-questions false p sums q e = let z : _≡_ {A = ℕ} 0 1 = cc in absurd (omega arith)
+
+-- demand 2: a word of 64 bits is accepted just where its set is closed under addition and it has at most 32 gaps
+pub accepted-iff : (w : ℕ) → w < 2 ^ 64 → (lookOf w ≡ given (reportOf w)) ↔ (ClosedUnderAddition (setOf w) × (genus w ≤ 32))
+unfolding lookOf
+accepted-iff w fits = (
+  λ e. let h = look-given w (reportOf w) e .0 in (closed-iff w fits .0 (h .sums), h .few),
+  λ (s, few). asked refused w (given (reportOf w)) record { sums = closed-iff w fits .1 s; few = few },
+)

@@ -1,0 +1,48 @@
+-- Known semigroups: the genus lists of genus 0 to 4 and the numbers of semigroups of genus 0 to 8, computed by the tree, and looks at
+-- words, computed from the definition. Assumes nothing.
+use Prim.Native.Nat.{ℕ, _+_, _<_}
+use mathlib.Core.Path.{_≡_, refl, sym, _∙_, ap}
+use mathlib.Core.List.{List, [], _∷_, map}
+use native.Mathlib.Omega.{arith}
+use native.Mathlib.Nat.{zero-add}
+use lib.ListN.{length, getD}
+use Rattle.words.specs.Lists.{run, keep, keepIf, every, joined, lastOr}
+use Rattle.words.specs.Sets.{sumOfTwo}
+use Rattle.words.specs.Words.{bit, setOf, gaps, genus, largestGap, conductor, closed, childWord}
+use Rattle.words.specs.Elements.{multiplicity, generator, rightGenerators}
+use Rattle.words.specs.GenusList.{genusList}
+use Rattle.words.specs.Answers.{refused, given, askWord, reportOf, lookOf}
+use Rattle.words.proofs.Lists.{map-run, getD-map-run}
+use Rattle.words.proofs.Leaves.{leaves, genus-list-leaves}
+
+-- the genus lists of genus 0 to 4
+abbrev pub knownLists : List (List ℕ)
+knownLists = (0 ∷ []) ∷ (1 ∷ []) ∷ (3 ∷ 5 ∷ []) ∷ (7 ∷ 11 ∷ 19 ∷ 21 ∷ []) ∷ (15 ∷ 23 ∷ 39 ∷ 71 ∷ 27 ∷ 75 ∷ 85 ∷ []) ∷ []
+
+-- and the numbers of semigroups of genus 0 to 8
+pub known-lists : (map genusList (0 ∷ 1 ∷ 2 ∷ 3 ∷ 4 ∷ []) ≡ knownLists)
+    × (map (λ g. length (genusList g)) (0 ∷ 1 ∷ 2 ∷ 3 ∷ 4 ∷ 5 ∷ 6 ∷ 7 ∷ 8 ∷ []) ≡ 1 ∷ 1 ∷ 2 ∷ 4 ∷ 7 ∷ 12 ∷ 23 ∷ 39 ∷ 67 ∷ [])
+unfolding run keep every joined lastOr sumOfTwo bit setOf gaps largestGap conductor childWord multiplicity generator rightGenerators leaves
+known-lists = (
+  map-run genusList (λ g. leaves g 0) 0 0 5 (λ g l. genus-list-leaves (0 + g) (omega arith)),
+  map-run (λ g. length (genusList g)) (λ g. length (leaves g 0)) 0 0 9 (λ g l. ap length (genus-list-leaves (0 + g) (omega arith))),
+)
+
+-- the genus list of a genus up to 4
+pub known-list : (g : ℕ) → g < 5 → genusList g ≡ getD knownLists g []
+unfolding run
+known-list g h = sym (getD-map-run genusList [] 0 5 g h ∙ ap genusList (zero-add g)) ∙ ap (λ (l : List (List ℕ)). getD l g []) (known-lists .0)
+
+-- the looks at the words 0, 1, 5, 111, 91, 13, that of the gaps 1 to 32, and that of the gaps 1 to 33
+pub known-looks : map lookOf (0 ∷ 1 ∷ 5 ∷ 111 ∷ 91 ∷ 13 ∷ 4294967295 ∷ 8589934591 ∷ [])
+    ≡ given (record { genus = 0; multiplicity = 1; conductor = 1 })
+    ∷ given (record { genus = 1; multiplicity = 2; conductor = 2 })
+    ∷ given (record { genus = 2; multiplicity = 2; conductor = 4 })
+    ∷ given (record { genus = 6; multiplicity = 5; conductor = 8 })
+    ∷ given (record { genus = 5; multiplicity = 3; conductor = 8 })
+    ∷ refused 2
+    ∷ given (record { genus = 32; multiplicity = 33; conductor = 33 })
+    ∷ refused 1
+    ∷ []
+unfolding run keep keepIf every lastOr sumOfTwo bit setOf gaps genus largestGap conductor closed multiplicity askWord reportOf lookOf
+known-looks = refl

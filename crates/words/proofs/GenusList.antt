@@ -1,0 +1,177 @@
+-- The genus list of g holds the words of the numerical semigroups of genus g, each once and in list order. Assumes nothing.
+use Prim.Native.Nat.{ℕ, zero, suc, _-_, _^_, _≤_, _<_}
+use mathlib.Core.Path.{_≡_, refl, sym, _∙_, ap, subst, subst₂, fun-ext}
+use mathlib.Core.Logic.{inl, inr}
+use mathlib.Core.Bool.{true, false}
+use mathlib.Core.List.{List, [], _∷_, _++_, map, List·Memᴰ, List·Memᴰ·head, List·Memᴰ·eq-of-singleton, Memᴰ·map, Memᴰ·of-map, Memᴰ·cast}
+use native.Mathlib.Omega.{arith}
+use native.Mathlib.Nat.{ℕ-set}
+use lib.ListN.{length}
+use Rattle.words.specs.Lists.{run, Ordered}
+use Rattle.words.specs.Sets.{Set, NumericalSemigroup, GapsOf, HasGenus}
+use Rattle.words.specs.Words.{setOf, gaps, genus, wordOf, closed}
+use Rattle.words.specs.GenusList.{risings, genusList, Before, Earlier, AllOfGenus}
+use Rattle.words.proofs.Booleans.{not-both}
+use Rattle.words.proofs.Lists.{rising-nil, rising-cons, rising-tail, run-mem, mem-run, keep-mem, mem-keep, joined-mem, mem-joined, ordered-run, ordered-one, ordered-keep, ordered-joined, ordered-map, ordered-once, ordered-unique}
+use Rattle.words.proofs.Sets.{gaps-unique, same-of-gaps}
+use Rattle.words.proofs.Words.{GapList, gaps-of, word-genus, word-lt, same-set, word-gaps, gaps-of-word, gaps-list, word-of-gaps}
+use Rattle.words.proofs.Counting.{gap-bound}
+use Rattle.words.proofs.Closure.{closed-iff, closed-semigroup}
+
+-- ---- risings r lo holds the lists of r numbers from lo to 64, in order
+
+-- l lists r numbers from lo to 64, in order
+abbrev Chosen : ℕ → ℕ → List ℕ → Type 0
+Chosen r lo l = GapList lo l × (length l ≡ r)
+
+risings-mem : (r lo : ℕ) {l : List ℕ} → List·Memᴰ l (risings r lo) → Chosen r lo l
+unfolding risings
+risings-mem zero lo m = subst (Chosen 0 lo) (sym (List·Memᴰ·eq-of-singleton m)) (rising-nil, refl)
+risings-mem (suc r) lo m =
+    let (x, i, k) = joined-mem _ (run lo (65 - lo)) m in
+    let (t, j, e) = Memᴰ·of-map (λ t. x ∷ t) (risings r (suc x)) k in
+    let b = run-mem lo (65 - lo) i in
+    let h = risings-mem r (suc x) j in
+    subst (Chosen (suc r) lo) e (rising-cons (b .0) (omega arith) (h .0), ap suc (h .1))
+
+mem-risings : (r lo : ℕ) (l : List ℕ) → Chosen r lo l → List·Memᴰ l (risings r lo)
+unfolding risings
+mem-risings zero lo [] c = List·Memᴰ·head refl
+mem-risings zero lo (x ∷ l) c = absurd (omega arith)
+mem-risings (suc r) lo [] c = absurd (omega arith)
+mem-risings (suc r) lo (x ∷ l) c =
+    let b = c .0 .within x (List·Memᴰ·head refl) in
+    mem-joined _ (run lo (65 - lo)) (mem-run lo (65 - lo) (b .0) (omega arith))
+    (Memᴰ·map (λ t. x ∷ t) (mem-risings r (suc x) l (rising-tail (c .0), omega arith)))
+
+-- ---- what the genus list holds
+
+-- a word of 64 bits whose set is closed, with g gaps
+pub record WordOfGenus (g w : ℕ) : Type 0 where
+  pub fits : w < 2 ^ 64
+  pub sums : closed w ≡ true
+  pub gapped : genus w ≡ g
+
+-- the list holds just these words
+pub genus-list-mem : (g : ℕ) {w : ℕ} → List·Memᴰ w (genusList g) → WordOfGenus g w
+unfolding genusList genus
+genus-list-mem g {w} m =
+    let (k, c) = keep-mem closed (map wordOf (risings g 1)) m in
+    let (l, i, e) = Memᴰ·of-map wordOf (risings g 1) k in
+    let h = risings-mem g 1 i in
+    record {
+      fits = subst (λ (v : ℕ). v < 2 ^ 64) e (word-lt l (h .0));
+      sums = c;
+      gapped = subst (λ (v : ℕ). length (gaps v) ≡ g) e (ap length (gaps-of-word l (h .0)) ∙ h .1);
+    }
+
+pub mem-genus-list : (g w : ℕ) → WordOfGenus g w → List·Memᴰ w (genusList g)
+unfolding genusList genus
+mem-genus-list g w h =
+    mem-keep closed (map wordOf (risings g 1))
+    (Memᴰ·cast (sym (word-of-gaps w (h .fits))) (Memᴰ·map wordOf (mem-risings g 1 (gaps w) (gaps-list w, h .gapped))))
+    (h .sums)
+
+-- each word of the list is a 64-bit word of a numerical semigroup of genus g
+pub genus-list-sound : (g : ℕ) {w : ℕ} → List·Memᴰ w (genusList g) → (w < 2 ^ 64) × NumericalSemigroup (setOf w) × HasGenus (setOf w) g
+genus-list-sound g {w} m =
+    let h = genus-list-mem g m in
+    (h .fits, closed-semigroup w (h .fits) (h .sums), subst (HasGenus (setOf w)) (h .gapped) (word-genus w (h .fits)))
+
+-- each 64-bit word of a numerical semigroup of genus g is in the list
+pub genus-list-word : (g w : ℕ) → w < 2 ^ 64 → NumericalSemigroup (setOf w) → HasGenus (setOf w) g → List·Memᴰ w (genusList g)
+unfolding genus
+genus-list-word g w h s (l, o, e) = mem-genus-list g w record {
+  fits = h;
+  sums = closed-iff w h .1 (s .closed);
+  gapped = ap length (gaps-unique (setOf w) (gaps w) l (gaps-of w h) o) ∙ e;
+}
+
+-- the gaps of a numerical semigroup of genus 32 at most are from 1 to 64
+gaps-within : (S : Set) (l : List ℕ) (g : ℕ) → NumericalSemigroup S → GapsOf S l → length l ≡ g → g ≤ 32 → GapList 1 l
+gaps-within S l g s o e h = record {
+  ordered = o .rising;
+  within = λ x m. (positive x (o .missed x m), let b = gap-bound S l g s o e x m in omega arith);
+}
+  where
+    positive : (x : ℕ) → S x ≡ false → 1 ≤ x
+    positive zero t = absurd (not-both (s .zero-in) t)
+    positive (suc x) t = omega arith
+
+-- each numerical semigroup of genus 32 at most is the set of a word of the list
+pub genus-list-complete : (S : Set) (g : ℕ) → NumericalSemigroup S → HasGenus S g → g ≤ 32
+    → (w : ℕ) × (w < 2 ^ 64) × ((x : ℕ) → setOf w x ≡ S x) × List·Memᴰ w (genusList g)
+genus-list-complete S g s (l, o, e) h =
+    let w = wordOf l in
+    let i = gaps-within S l g s o e h in
+    let same = same-of-gaps (setOf w) S l (word-gaps l i) o in
+    (w, word-lt l i, same, genus-list-word g w (word-lt l i) (subst NumericalSemigroup (sym (fun-ext same)) s) (l, word-gaps l i, e))
+
+-- ---- list order
+
+pub before-asym : (k l : List ℕ) → Before k l → Before l k → ⊥
+unfolding Before
+before-asym [] l b c = b
+before-asym (x ∷ k) [] b c = b
+before-asym (x ∷ k) (y ∷ l) (inl h) (inl i) = omega arith
+before-asym (x ∷ k) (y ∷ l) (inl h) (inr c) = omega arith
+before-asym (x ∷ k) (y ∷ l) (inr b) (inl i) = omega arith
+before-asym (x ∷ k) (y ∷ l) (inr b) (inr c) = before-asym k l (b .1) (c .1)
+
+-- it stays behind the same beginning
+pub before-append : (k l m : List ℕ) → Before l m → Before (k ++ l) (k ++ m)
+unfolding Before
+before-append [] l m b = b
+before-append (x ∷ k) l m b = inr (refl, before-append k l m b)
+
+pub ordered-behind : (x : ℕ) (l : List (List ℕ)) → Ordered Before l → Ordered Before (map (λ k. x ∷ k) l)
+ordered-behind x l o = ordered-map Before Before (λ k. x ∷ k) l o (λ k m i j. before-append (x ∷ []) k m)
+
+-- ---- the order of the genus list
+
+risings-ordered : (r lo : ℕ) → Ordered Before (risings r lo)
+unfolding risings Before
+risings-ordered zero lo = ordered-one Before []
+risings-ordered (suc r) lo =
+    ordered-joined _<_ Before _ (run lo (65 - lo)) (ordered-run lo (65 - lo))
+    (λ x m. ordered-behind x (risings r (suc x)) (risings-ordered r (suc x)))
+    (λ x y i j h k l m n. first h (Memᴰ·of-map (λ t. x ∷ t) (risings r (suc x)) m) (Memᴰ·of-map (λ t. y ∷ t) (risings r (suc y)) n))
+  where
+    first : {x y : ℕ} {k l : List ℕ} → x < y → (t : List ℕ) × List·Memᴰ t (risings r (suc x)) × ((x ∷ t) ≡ k)
+        → (t : List ℕ) × List·Memᴰ t (risings r (suc y)) × ((y ∷ t) ≡ l) → Before k l
+    first {x} {y} h (t, m, e) (u, n, f) = subst₂ Before e f (inl h)
+
+-- the genus list is in list order, each word before all later ones
+pub genus-list-ordered : (g : ℕ) → Ordered Earlier (genusList g)
+unfolding genusList
+genus-list-ordered g =
+    ordered-keep Earlier closed (map wordOf (risings g 1))
+    (ordered-map Before Earlier wordOf (risings g 1) (risings-ordered g 1)
+    (λ k l m n b. subst₂ Before (sym (gaps-of-word k (risings-mem g 1 m .0))) (sym (gaps-of-word l (risings-mem g 1 n .0))) b))
+
+pub earlier-asym : (v w : ℕ) → Earlier v w → Earlier w v → ⊥
+earlier-asym v w = before-asym (gaps v) (gaps w)
+
+-- so it holds each word once
+pub genus-list-once : (g w : ℕ) (m k : List·Memᴰ w (genusList g)) → m ≡ k
+genus-list-once g = ordered-once Earlier earlier-asym ℕ-set (genusList g) (genus-list-ordered g)
+
+-- ---- the genus list is the list of all numerical semigroups of its genus
+
+pub genus-list-all : (g : ℕ) → g ≤ 32 → AllOfGenus g (genusList g)
+genus-list-all g h = record {
+  only = λ w m. genus-list-sound g m;
+  all = λ S s o. let (w, fits, same, m) = genus-list-complete S g s o h in (w, same, m);
+  ordered = genus-list-ordered g;
+  once = genus-list-once g;
+}
+
+-- and any list of them is the genus list
+pub genus-list-unique : (g : ℕ) (l : List ℕ) → AllOfGenus g l → l ≡ genusList g
+genus-list-unique g l a =
+    ordered-unique Earlier earlier-asym l (genusList g) (a .ordered) (genus-list-ordered g)
+    (λ w m. let (fits, s, o) = a .only w m in genus-list-word g w fits s o)
+    (λ w m.
+    let (fits, s, o) = genus-list-sound g m in
+    let (v, same, n) = a .all (setOf w) s o in
+    Memᴰ·cast (same-set w v fits (a .only v n .0) (λ x. sym (same x))) n)

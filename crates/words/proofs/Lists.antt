@@ -1,0 +1,423 @@
+-- Laws of `run`, `keep`, `every`, `joined`, `begins` and rising lists: what they hold, in which order, and how many. Assumes nothing.
+use Prim.Native.Nat.{ℕ, zero, suc, _+_, _-_, _^_, _≤_, _<_}
+use mathlib.Core.Path.{_≡_, refl, sym, _∙_, ap, ap₂, subst}
+use mathlib.Core.Logic.{_⊎_, inl, inr, _↔_, ⊎-elim}
+use mathlib.Core.Bool.{Bool, true, false, _&&_, and-assoc, and-eq-true-iff}
+use mathlib.Core.List.{List, [], _∷_, _++_, append-assoc, map, map-append, List·Memᴰ, List·Memᴰ·head, List·Memᴰ·tail, List·Memᴰ·not-nil, List·Memᴰ·cases-cons, Memᴰ·cast, Memᴰ·append-left, Memᴰ·append-right, List·Memᴰ·append-cases, Memᴰ·of-map}
+use native.Mathlib.Omega.{arith}
+use native.Mathlib.Nat.{add-zero, zero-add, suc-add, add-suc, eq-or-lt-of-le, le-of-eq, le-trans, le-of-lt, le-dest, pow-suc}
+use native.Mathlib.Numerals.{add-one}
+use lib.Dec.{eqb}
+use lib.ListN.{length, getD, take, drop, length-append, take-append-drop}
+use lib.Pow.{pow-mono}
+use lib.Seq.{take-append-seam}
+use borrow.Author.Tests.{eq-eqb, ne-eqb, eqb-true}
+use Rattle.words.specs.Lists.{run, keep, keepIf, every, joined, sumOver, lastOr, begins, onFrom, Ordered}
+use Rattle.words.proofs.Booleans.{not-both, by-value}
+
+-- ---- run
+
+-- run a n holds the numbers from a up to a + n
+pub run-mem : {x : ℕ} (a n : ℕ) → List·Memᴰ x (run a n) → (a ≤ x) × (x < a + n)
+unfolding run
+run-mem a zero m = absurd (List·Memᴰ·not-nil m)
+run-mem a (suc n) (List·Memᴰ·head e) = omega arith
+run-mem a (suc n) (List·Memᴰ·tail m) = let h = run-mem (suc a) n m in omega arith
+
+pub mem-run : {x : ℕ} (a n : ℕ) → a ≤ x → x < a + n → List·Memᴰ x (run a n)
+unfolding run
+mem-run a zero h k = absurd (omega arith)
+mem-run a (suc n) h k =
+    ⊎-elim (λ e. List·Memᴰ·head (sym e)) (λ l. List·Memᴰ·tail (mem-run (suc a) n l (omega arith))) (eq-or-lt-of-le h)
+
+pub ordered-run : (a n : ℕ) → Ordered _<_ (run a n)
+unfolding run Ordered
+ordered-run a zero = tt
+ordered-run a (suc n) = (λ y m. run-mem (suc a) n m .0, ordered-run (suc a) n)
+
+pub run-append : (a m n : ℕ) → run a (m + n) ≡ run a m ++ run (a + m) n
+unfolding run
+run-append a zero n = ap₂ run (sym (add-zero a)) (zero-add n)
+run-append a (suc m) n = ap (run a) (suc-add m n) ∙ ap (λ (l : List ℕ). a ∷ l) (run-append (suc a) m n ∙ ap (λ (x : ℕ). run (suc a) m ++ run x n) (omega arith))
+
+-- the numbers below a sum, and below n + 1
+pub run-below : (m n : ℕ) → run 0 (m + n) ≡ run 0 m ++ run m n
+run-below m n = run-append 0 m n ∙ ap (λ (k : ℕ). run 0 m ++ run k n) (zero-add m)
+
+pub run-last : (n : ℕ) → run 0 (suc n) ≡ run 0 n ++ n ∷ []
+unfolding run
+run-last n = ap (run 0) (sym (add-one n)) ∙ run-below n 1
+
+pub length-run : (a n : ℕ) → length (run a n) ≡ n
+unfolding run
+length-run a zero = refl
+length-run a (suc n) = ap suc (length-run (suc a) n)
+
+-- equal values along two runs
+pub map-run : {B : Type 0} (f h : ℕ → B) (a b n : ℕ) → ((j : ℕ) → j < n → f (a + j) ≡ h (b + j)) → map f (run a n) ≡ map h (run b n)
+unfolding run
+map-run f h a b zero e = refl
+map-run f h a b (suc n) e =
+    ap₂ _∷_ (ap f (sym (add-zero a)) ∙ e 0 (omega arith) ∙ ap h (add-zero b))
+    (map-run f h (suc a) (suc b) n (λ j l. ap f (omega arith) ∙ e (suc j) (omega arith) ∙ ap h (omega arith)))
+
+pub getD-map-run : {B : Type 0} (h : ℕ → B) (d : B) (a n i : ℕ) → i < n → getD (map h (run a n)) i d ≡ h (a + i)
+unfolding run
+getD-map-run h d a zero i l = absurd (omega arith)
+getD-map-run h d a (suc n) zero l = ap h (sym (add-zero a))
+getD-map-run h d a (suc n) (suc i) l = getD-map-run h d (suc a) n i (omega arith) ∙ ap h (omega arith)
+
+module _ {A : Type 0} where
+  -- a list that holds nothing is empty
+  pub nothing : (l : List A) → ((x : A) → List·Memᴰ x l → ⊥) → l ≡ []
+  nothing [] h = refl
+  nothing (x ∷ l) h = absurd (h x (List·Memᴰ·head refl))
+
+  -- ---- keep
+
+  -- keep p l holds what is in l and passes p
+  keepIf-mem : {y : A} (b : Bool) (x : A) (l : List A) → List·Memᴰ y (keepIf b x l) → ((y ≡ x) × (b ≡ true)) ⊎ List·Memᴰ y l
+  unfolding keepIf
+  keepIf-mem true x l (List·Memᴰ·head e) = inl (e, refl)
+  keepIf-mem true x l (List·Memᴰ·tail m) = inr m
+  keepIf-mem false x l m = inr m
+
+  pub keep-mem : {y : A} (p : A → Bool) (l : List A) → List·Memᴰ y (keep p l) → List·Memᴰ y l × (p y ≡ true)
+  unfolding keep
+  keep-mem p [] m = absurd (List·Memᴰ·not-nil m)
+  keep-mem p (x ∷ l) m =
+      ⊎-elim (λ h. (List·Memᴰ·head (h .0), ap p (h .0) ∙ h .1)) (λ k. let r = keep-mem p l k in (List·Memᴰ·tail (r .0), r .1))
+      (keepIf-mem (p x) x (keep p l) m)
+
+  mem-keepIf-head : {y : A} (b : Bool) (x : A) (l : List A) → y ≡ x → b ≡ true → List·Memᴰ y (keepIf b x l)
+  unfolding keepIf
+  mem-keepIf-head true x l e t = List·Memᴰ·head e
+  mem-keepIf-head false x l e t = absurd (not-both t refl)
+
+  mem-keepIf-tail : {y : A} (b : Bool) (x : A) (l : List A) → List·Memᴰ y l → List·Memᴰ y (keepIf b x l)
+  unfolding keepIf
+  mem-keepIf-tail true x l m = List·Memᴰ·tail m
+  mem-keepIf-tail false x l m = m
+
+  pub mem-keep : {y : A} (p : A → Bool) (l : List A) → List·Memᴰ y l → p y ≡ true → List·Memᴰ y (keep p l)
+  unfolding keep
+  mem-keep p [] m t = absurd (List·Memᴰ·not-nil m)
+  mem-keep p (x ∷ l) (List·Memᴰ·head e) t = mem-keepIf-head (p x) x (keep p l) e (sym (ap p e) ∙ t)
+  mem-keep p (x ∷ l) (List·Memᴰ·tail m) t = mem-keepIf-tail (p x) x (keep p l) (mem-keep p l m t)
+
+  ordered-keepIf : (R : A → A → Type 0) (b : Bool) (x : A) (l : List A) → ((y : A) → List·Memᴰ y l → R x y) → Ordered R l → Ordered R (keepIf b x l)
+  unfolding keepIf Ordered
+  ordered-keepIf R true x l h o = (h, o)
+  ordered-keepIf R false x l h o = o
+
+  pub ordered-keep : (R : A → A → Type 0) (p : A → Bool) (l : List A) → Ordered R l → Ordered R (keep p l)
+  unfolding keep Ordered
+  ordered-keep R p [] o = tt
+  ordered-keep R p (x ∷ l) o = ordered-keepIf R (p x) x (keep p l) (λ y m. o .0 y (keep-mem p l m .0)) (ordered-keep R p l (o .1))
+
+  module _ (p : A → Bool) where
+    pub keep-in : (x : A) (l : List A) → p x ≡ true → keep p (x ∷ l) ≡ x ∷ keep p l
+    unfolding keep keepIf
+    keep-in x l e = ap (λ (b : Bool). keepIf b x (keep p l)) e
+
+    pub keep-out : (x : A) (l : List A) → p x ≡ false → keep p (x ∷ l) ≡ keep p l
+    unfolding keep keepIf
+    keep-out x l e = ap (λ (b : Bool). keepIf b x (keep p l)) e
+
+    pub keep-append : (k l : List A) → keep p (k ++ l) ≡ keep p k ++ keep p l
+    unfolding keep keepIf
+    keep-append [] l = refl
+    keep-append (x ∷ k) l =
+        ap (keepIf (p x) x) (keep-append k l)
+        ∙ elim (p x) as (λ (b : Bool). keepIf b x (keep p k ++ keep p l) ≡ keepIf b x (keep p k) ++ keep p l) [ true ↦ refl | false ↦ refl ]
+
+  -- ---- every
+
+  -- every p l: each one in l passes p
+  pub every-mem : {x : A} (p : A → Bool) (l : List A) → every p l ≡ true → List·Memᴰ x l → p x ≡ true
+  unfolding every
+  every-mem p [] h m = absurd (List·Memᴰ·not-nil m)
+  every-mem p (y ∷ l) h (List·Memᴰ·head e) = ap p e ∙ and-eq-true-iff (p y) (every p l) .0 h .0
+  every-mem p (y ∷ l) h (List·Memᴰ·tail m) = every-mem p l (and-eq-true-iff (p y) (every p l) .0 h .1) m
+
+  pub mem-every : (p : A → Bool) (l : List A) → ((x : A) → List·Memᴰ x l → p x ≡ true) → every p l ≡ true
+  unfolding every
+  mem-every p [] h = refl
+  mem-every p (y ∷ l) h = and-eq-true-iff (p y) (every p l) .1 (h y (List·Memᴰ·head refl), mem-every p l (λ x m. h x (List·Memᴰ·tail m)))
+
+  -- where not every one passes, one fails
+  pub every-false : (p : A → Bool) (l : List A) → every p l ≡ false → (x : A) × List·Memᴰ x l × (p x ≡ false)
+  unfolding every
+  every-false p [] e = absurd (not-both refl e)
+  every-false p (y ∷ l) e =
+      by-value (p y)
+      (λ t. let (x, m, f) = every-false p l (ap (λ (b : Bool). b && every p l) (sym t) ∙ e) in (x, List·Memᴰ·tail m, f))
+      (λ f. (y, List·Memᴰ·head refl, f))
+
+  pub every-append : (p : A → Bool) (k l : List A) → every p (k ++ l) ≡ (every p k && every p l)
+  unfolding every
+  every-append p [] l = refl
+  every-append p (x ∷ k) l = ap (λ (b : Bool). p x && b) (every-append p k l) ∙ sym (and-assoc (p x) (every p k) (every p l))
+
+  -- ---- order
+
+  pub ordered-one : (R : A → A → Type 0) (x : A) → Ordered R (x ∷ [])
+  unfolding Ordered
+  ordered-one R x = (λ y m. absurd (List·Memᴰ·not-nil m), tt)
+
+  pub ordered-append : (R : A → A → Type 0) (k l : List A) → Ordered R k → Ordered R l
+      → ((x y : A) → List·Memᴰ x k → List·Memᴰ y l → R x y) → Ordered R (k ++ l)
+  unfolding Ordered
+  ordered-append R [] l o q h = q
+  ordered-append R (x ∷ k) l o q h = (
+    λ y m. ⊎-elim (o .0 y) (h x y (List·Memᴰ·head refl)) (List·Memᴰ·append-cases k m),
+    ordered-append R k l (o .1) q (λ z y m. h z y (List·Memᴰ·tail m)),
+  )
+
+  -- of an ordered list, the order of two parts
+  pub ordered-parts : (R : A → A → Type 0) (k l : List A) → Ordered R (k ++ l)
+      → Ordered R l × ((x y : A) → List·Memᴰ x k → List·Memᴰ y l → R x y)
+  unfolding Ordered
+  ordered-parts R [] l o = (o, λ x y m n. absurd (List·Memᴰ·not-nil m))
+  ordered-parts R (z ∷ k) l o =
+      let (p, q) = ordered-parts R k l (o .1) in
+      (p, λ x y m n. ⊎-elim (λ e. subst (λ (v : A). R v y) (sym e) (o .0 y (Memᴰ·append-right k n))) (λ i. q x y i n) (List·Memᴰ·cases-cons m))
+
+  -- R is asymmetric: it holds one way round only
+  module _ (R : A → A → Type 0) (asym : (x y : A) → R x y → R y x → ⊥) where
+    -- the head is no later one
+    head-once : (x : A) (l : List A) → Ordered R (x ∷ l) → List·Memᴰ x l → ⊥
+    unfolding Ordered
+    head-once x l o m = asym x x (o .0 x m) (o .0 x m)
+
+    -- in a list ordered by R each stands once
+    pub ordered-once : IsSet A → (l : List A) → Ordered R l → (x : A) (m k : List·Memᴰ x l) → m ≡ k
+    unfolding Ordered
+    ordered-once s [] o x m k = absurd (List·Memᴰ·not-nil m)
+    ordered-once s (y ∷ l) o x (List·Memᴰ·head e) (List·Memᴰ·head f) = ap List·Memᴰ·head (s x y e f)
+    ordered-once s (y ∷ l) o x (List·Memᴰ·head e) (List·Memᴰ·tail k) = absurd (head-once y l o (Memᴰ·cast (sym e) k))
+    ordered-once s (y ∷ l) o x (List·Memᴰ·tail m) (List·Memᴰ·head f) = absurd (head-once y l o (Memᴰ·cast (sym f) m))
+    ordered-once s (y ∷ l) o x (List·Memᴰ·tail m) (List·Memᴰ·tail k) = ap List·Memᴰ·tail (ordered-once s l (o .1) x m k)
+
+    heads-agree : (x y : A) (k l : List A) → Ordered R (x ∷ k) → Ordered R (y ∷ l) → List·Memᴰ x (y ∷ l) → List·Memᴰ y (x ∷ k) → x ≡ y
+    unfolding Ordered
+    heads-agree x y k l o p (List·Memᴰ·head e) n = e
+    heads-agree x y k l o p (List·Memᴰ·tail m) (List·Memᴰ·head e) = sym e
+    heads-agree x y k l o p (List·Memᴰ·tail m) (List·Memᴰ·tail n) = absurd (asym x y (o .0 y n) (p .0 x m))
+
+    -- what a list holds behind its head, another that begins with the same holds behind its head
+    tails-agree : (x y : A) (k l : List A) → Ordered R (x ∷ k) → x ≡ y → ((z : A) → List·Memᴰ z (x ∷ k) → List·Memᴰ z (y ∷ l))
+        → (z : A) → List·Memᴰ z k → List·Memᴰ z l
+    tails-agree x y k l o e f z m =
+        ⊎-elim (λ d. absurd (head-once x k o (Memᴰ·cast (e ∙ sym d) m))) (λ n. n) (List·Memᴰ·cases-cons (f z (List·Memᴰ·tail m)))
+
+    -- two lists ordered by R that hold the same are equal
+    pub ordered-unique : (k l : List A) → Ordered R k → Ordered R l
+        → ((x : A) → List·Memᴰ x k → List·Memᴰ x l) → ((x : A) → List·Memᴰ x l → List·Memᴰ x k) → k ≡ l
+    unfolding Ordered
+    ordered-unique [] [] o p f g = refl
+    ordered-unique [] (y ∷ l) o p f g = absurd (List·Memᴰ·not-nil (g y (List·Memᴰ·head refl)))
+    ordered-unique (x ∷ k) [] o p f g = absurd (List·Memᴰ·not-nil (f x (List·Memᴰ·head refl)))
+    ordered-unique (x ∷ k) (y ∷ l) o p f g =
+        let e = heads-agree x y k l o p (f x (List·Memᴰ·head refl)) (g y (List·Memᴰ·head refl)) in
+        ap₂ _∷_ e (ordered-unique k l (o .1) (p .1) (tails-agree x y k l o e f) (tails-agree y x l k p (sym e) g))
+
+module _ {A B : Type 0} where
+  -- ---- joined
+
+  -- joined f l holds what f x holds, for the x in l
+  pub joined-mem : {y : B} (f : A → List B) (l : List A) → List·Memᴰ y (joined f l) → (x : A) × List·Memᴰ x l × List·Memᴰ y (f x)
+  unfolding joined
+  joined-mem f [] m = absurd (List·Memᴰ·not-nil m)
+  joined-mem f (x ∷ l) m =
+      ⊎-elim (λ k. (x, List·Memᴰ·head refl, k)) (λ k. let r = joined-mem f l k in (r .0, List·Memᴰ·tail (r .1), r .2))
+      (List·Memᴰ·append-cases (f x) m)
+
+  pub mem-joined : {x : A} {y : B} (f : A → List B) (l : List A) → List·Memᴰ x l → List·Memᴰ y (f x) → List·Memᴰ y (joined f l)
+  unfolding joined
+  mem-joined f [] m k = absurd (List·Memᴰ·not-nil m)
+  mem-joined {x} {y} f (z ∷ l) (List·Memᴰ·head e) k = Memᴰ·append-left (joined f l) (subst (λ (v : A). List·Memᴰ y (f v)) e k)
+  mem-joined f (z ∷ l) (List·Memᴰ·tail m) k = Memᴰ·append-right (f z) (mem-joined f l m k)
+
+  pub joined-cong : (f h : A → List B) (l : List A) → ((x : A) → List·Memᴰ x l → f x ≡ h x) → joined f l ≡ joined h l
+  unfolding joined
+  joined-cong f h [] e = refl
+  joined-cong f h (x ∷ l) e = ap₂ _++_ (e x (List·Memᴰ·head refl)) (joined-cong f h l (λ y m. e y (List·Memᴰ·tail m)))
+
+  pub joined-append : (f : A → List B) (k l : List A) → joined f (k ++ l) ≡ joined f k ++ joined f l
+  unfolding joined
+  joined-append f [] l = refl
+  joined-append f (x ∷ k) l = ap (λ (t : List B). f x ++ t) (joined-append f k l) ∙ sym (append-assoc (f x) (joined f k) (joined f l))
+
+  pub length-joined : (f : A → List B) (l : List A) → length (joined f l) ≡ sumOver (λ x. length (f x)) l
+  unfolding joined sumOver
+  length-joined f [] = refl
+  length-joined f (x ∷ l) = length-append (f x) (joined f l) ∙ ap (λ (n : ℕ). length (f x) + n) (length-joined f l)
+
+  -- in order: lists in order, joined along a list in order, each of the one before each of the next
+  pub ordered-joined : (Q : A → A → Type 0) (R : B → B → Type 0) (f : A → List B) (l : List A) → Ordered Q l
+      → ((x : A) → List·Memᴰ x l → Ordered R (f x))
+      → ((x y : A) → List·Memᴰ x l → List·Memᴰ y l → Q x y → (v w : B) → List·Memᴰ v (f x) → List·Memᴰ w (f y) → R v w) → Ordered R (joined f l)
+  unfolding Ordered joined
+  ordered-joined Q R f [] o i h = tt
+  ordered-joined Q R f (x ∷ l) o i h =
+      ordered-append R (f x) (joined f l) (i x (List·Memᴰ·head refl))
+      (ordered-joined Q R f l (o .1) (λ y m. i y (List·Memᴰ·tail m)) (λ y z m k. h y z (List·Memᴰ·tail m) (List·Memᴰ·tail k)))
+      (λ v w m k. let r = joined-mem f l k in h x (r .0) (List·Memᴰ·head refl) (List·Memᴰ·tail (r .1)) (o .0 (r .0) (r .1)) v w m (r .2))
+
+  -- f keeps the order of a list
+  pub ordered-map : (Q : A → A → Type 0) (R : B → B → Type 0) (f : A → B) (l : List A) → Ordered Q l
+      → ((x y : A) → List·Memᴰ x l → List·Memᴰ y l → Q x y → R (f x) (f y)) → Ordered R (map f l)
+  unfolding Ordered
+  ordered-map Q R f [] o h = tt
+  ordered-map Q R f (x ∷ l) o h = (
+    λ y m. let r = Memᴰ·of-map f l m in subst (R (f x)) (r .2) (h x (r .0) (List·Memᴰ·head refl) (List·Memᴰ·tail (r .1)) (o .0 (r .0) (r .1))),
+    ordered-map Q R f l (o .1) (λ y z m k. h y z (List·Memᴰ·tail m) (List·Memᴰ·tail k)),
+  )
+
+-- ---- rows, each of which ends where the next begins
+
+-- a sequence that does not fall at a step
+module _ (a : ℕ → ℕ) (up : (j : ℕ) → a j ≤ a (suc j)) where
+  rises-by : (i n : ℕ) → a i ≤ a (i + n)
+  rises-by i zero = le-of-eq (ap a (sym (add-zero i)))
+  rises-by i (suc n) = le-trans (rises-by i n) (subst (λ (k : ℕ). a (i + n) ≤ a k) (sym (add-suc i n)) (up (i + n)))
+
+  -- it does not fall
+  pub rises : {i k : ℕ} → i ≤ k → a i ≤ a k
+  rises {i} h = let (n, e) = le-dest h in subst (λ (k : ℕ). a i ≤ a k) e (rises-by i n)
+
+  -- the rows of h between its numbers, joined
+  pub joined-rows : {B : Type 0} (h : ℕ → B) (f : ℕ → List B) → ((j : ℕ) → f j ≡ map h (run (a j) (a (suc j) - a j)))
+      → (i n : ℕ) → joined f (run i n) ≡ map h (run (a i) (a (i + n) - a i))
+  unfolding run joined
+  joined-rows h f row i zero =
+      let none : 0 ≡ a (i + 0) - a i = omega (arith, ap a (add-zero i)) in
+      ap (λ (k : ℕ). map h (run (a i) k)) none
+  joined-rows h f row i (suc n) =
+      let here : ℕ = a (suc i) - a i in
+      let after : ℕ = a (suc i + n) - a (suc i) in
+      let last : a (i + suc n) ≡ a (suc i + n) = ap a (omega arith) in
+      let parts : here + after ≡ a (i + suc n) - a i = omega (arith, up i, rises-by (suc i) n) in
+      let next : a (suc i) ≡ a i + here = omega (arith, up i) in
+      ap₂ _++_ (row i) (joined-rows h f row (suc i) n) ∙ sym (map-append h (run (a i) here) (run (a (suc i)) after))
+      ∙ ap (map h) (ap (λ (k : ℕ). run (a i) here ++ run k after) next ∙ sym (run-append (a i) here after) ∙ ap (run (a i)) parts)
+
+-- ---- rising lists of numbers
+
+-- l lists numbers from lo on that are below hi, in order
+pub record Rising (lo hi : ℕ) (l : List ℕ) : Type 0 where
+  pub ordered : Ordered _<_ l
+  pub within : (x : ℕ) → List·Memᴰ x l → (lo ≤ x) × (x < hi)
+
+pub rising-nil : {lo hi : ℕ} → Rising lo hi []
+unfolding Ordered
+rising-nil = record { ordered = tt; within = λ x m. absurd (List·Memᴰ·not-nil m) }
+
+pub rising-cons : {lo hi x : ℕ} {l : List ℕ} → lo ≤ x → x < hi → Rising (suc x) hi l → Rising lo hi (x ∷ l)
+unfolding Ordered
+rising-cons h k r = record {
+  ordered = (λ y m. r .within y m .0, r .ordered);
+  within = λ y m. ⊎-elim (λ e. omega arith) (λ i. let b = r .within y i in omega arith) (List·Memᴰ·cases-cons m);
+}
+
+pub rising-tail : {lo hi x : ℕ} {l : List ℕ} → Rising lo hi (x ∷ l) → Rising (suc x) hi l
+unfolding Ordered
+rising-tail r = record { ordered = r .ordered .1; within = λ y m. (r .ordered .0 y m, r .within y (List·Memᴰ·tail m) .1) }
+
+pub rising-from : {lo low hi : ℕ} {l : List ℕ} → low ≤ lo → Rising lo hi l → Rising low hi l
+rising-from h r = record { ordered = r .ordered; within = λ x m. let b = r .within x m in omega arith }
+
+-- such a list begins with lo, or has no lo
+pub rising-cases : {lo hi : ℕ} (l : List ℕ) → Rising lo hi l → ((t : List ℕ) × ((lo ∷ t) ≡ l) × Rising (suc lo) hi t) ⊎ Rising (suc lo) hi l
+rising-cases [] r = inr rising-nil
+rising-cases {lo} {hi} (x ∷ l) r =
+    let (low, high) = r .within x (List·Memᴰ·head refl) in
+    ⊎-elim (λ e. inl (l, ap (λ (y : ℕ). y ∷ l) e, subst (λ (y : ℕ). Rising (suc y) hi l) (sym e) (rising-tail r)))
+    (λ h. inr (rising-cons h high (rising-tail r))) (eq-or-lt-of-le low)
+
+-- it has no more numbers than there are
+pub rising-length : {lo hi : ℕ} (l : List ℕ) → lo ≤ hi → Rising lo hi l → lo + length l ≤ hi
+rising-length [] h r = omega arith
+rising-length (x ∷ l) h r =
+    let (low, high) = r .within x (List·Memᴰ·head refl) in
+    omega (arith, rising-length l high (rising-tail r))
+
+-- ---- the last of a list
+
+pub last-mem : (d : ℕ) (l : List ℕ) → List·Memᴰ (lastOr d l) (d ∷ l)
+unfolding lastOr
+last-mem d [] = List·Memᴰ·head refl
+last-mem d (x ∷ l) = List·Memᴰ·tail (last-mem x l)
+
+-- in order, none is above the last
+pub le-last : {x : ℕ} (d : ℕ) (l : List ℕ) → Ordered _<_ (d ∷ l) → List·Memᴰ x (d ∷ l) → x ≤ lastOr d l
+unfolding lastOr Ordered
+le-last d [] o (List·Memᴰ·head e) = le-of-eq e
+le-last d [] o (List·Memᴰ·tail m) = absurd (List·Memᴰ·not-nil m)
+le-last d (y ∷ l) o (List·Memᴰ·head e) = le-trans (le-of-eq e) (le-trans (le-of-lt (o .0 y (List·Memᴰ·head refl))) (le-last y l (o .1) (List·Memᴰ·head refl)))
+le-last d (y ∷ l) o (List·Memᴰ·tail m) = le-last y l (o .1) m
+
+-- ---- places in a list
+
+pub cons-nil : {A : Type 0} {x : A} {l : List A} → x ∷ l ≡ [] → ⊥
+cons-nil e = let z : _≡_ {A = ℕ} 0 1 = cc in omega arith
+
+-- x is in a list in which it stands between k and l
+pub mem-middle : {A : Type 0} (k l : List A) (x : A) → List·Memᴰ x (k ++ x ∷ l)
+mem-middle k l x = Memᴰ·append-right k (List·Memᴰ·head refl)
+
+-- where x is in l, it stands between two parts of l
+pub mem-split : {A : Type 0} {x : A} (l : List A) → List·Memᴰ x l → (k t : List A) × (k ++ x ∷ t ≡ l)
+mem-split [] m = absurd (List·Memᴰ·not-nil m)
+mem-split (y ∷ l) (List·Memᴰ·head e) = ([], l, ap (λ z. z ∷ l) e)
+mem-split (y ∷ l) (List·Memᴰ·tail m) = let (k, t, e) = mem-split l m in (y ∷ k, t, ap (λ (u : List _). y ∷ u) e)
+
+-- an end of a list, without its first i, is an end of it
+pub end-drop : {A : Type 0} (i : ℕ) (k l : List A) {whole : List A} → k ++ l ≡ whole → (k ++ take i l) ++ drop i l ≡ whole
+end-drop i k l e = append-assoc k (take i l) (drop i l) ∙ ap (λ (t : List _). k ++ t) (take-append-drop i l) ∙ e
+
+-- in a list ordered by R, which nothing has to itself, from x on there is x and what follows it
+pub on-from : (R : ℕ → ℕ → Type 0) → ((x : ℕ) → R x x → ⊥) → (k l : List ℕ) (x : ℕ) → Ordered R (k ++ x ∷ l) → onFrom x (k ++ x ∷ l) ≡ x ∷ l
+unfolding onFrom Ordered
+on-from R irrefl [] l x o = rw (eq-eqb x x refl)
+on-from R irrefl (y ∷ k) l x o =
+    rw (ne-eqb x y (λ e. irrefl x (subst (λ (z : ℕ). R z x) (sym e) (o .0 x (mem-middle k l x)))))
+    (on-from R irrefl k l x (o .1))
+
+-- ---- a list that begins with another
+
+pub begins-append : (k l : List ℕ) → begins k (k ++ l) ≡ true
+unfolding begins
+begins-append [] l = refl
+begins-append (x ∷ k) l = and-eq-true-iff (eqb x x) (begins k (k ++ l)) .1 (eq-eqb x x refl, begins-append k l)
+
+pub begins-rest : (k l : List ℕ) → begins k l ≡ true → (r : List ℕ) × (k ++ r ≡ l)
+unfolding begins
+begins-rest [] l e = (l, refl)
+begins-rest (x ∷ k) [] e = absurd (not-both e refl)
+begins-rest (x ∷ k) (y ∷ l) e =
+    let (p, q) = and-eq-true-iff (eqb x y) (begins k l) .0 e in
+    let (r, s) = begins-rest k l q in
+    (r, ap₂ _∷_ (eqb-true x y p) s)
+
+-- the same by the first numbers of the list
+pub begins-iff : (k l : List ℕ) → (begins k l ≡ true) ↔ (take (length k) l ≡ k)
+begins-iff k l = (
+  λ e. let (r, s) = begins-rest k l e in ap (take (length k)) (sym s) ∙ take-append-seam k r,
+  λ e. ap (begins k) (sym (take-append-drop (length k) l) ∙ ap (λ (m : List ℕ). m ++ drop (length k) l) e) ∙ begins-append k (drop (length k) l),
+)
+
+-- ---- sums
+
+-- along rising numbers from c to n - 1, what is at most 2 ^ (n - 1 - x) for x is together at most 2 ^ (n - c)
+pub sum-of-powers : (f : ℕ → ℕ) (n c : ℕ) (l : List ℕ) → Ordered _<_ l → ((x : ℕ) → List·Memᴰ x l → (c ≤ x) × (x < n) × (f x ≤ 2 ^ (n - suc x)))
+    → sumOver f l ≤ 2 ^ (n - c)
+unfolding sumOver Ordered
+sum-of-powers f n c [] o h = omega arith
+sum-of-powers f n c (x ∷ l) o h =
+    let (low, high, here) = h x (List·Memᴰ·head refl) in
+    let rest = sum-of-powers f n (suc x) l (o .1) (λ y m. let (p, q, r) = h y (List·Memᴰ·tail m) in (o .0 y m, q, r)) in
+    let next : n - x ≡ suc (n - suc x) = omega arith in
+    let room : 2 ^ (n - x) ≤ 2 ^ (n - c) = pow-mono (omega arith) in
+    omega (arith, ap (λ (k : ℕ). 2 ^ k) next, pow-suc 2 (n - suc x))

@@ -1,0 +1,59 @@
+-- What the calls answer, by the numbers of the papers: a refusal by the number of its question, or the values that are asked for; the
+-- questions that each call on a word puts first; and a look at a word. Assumes nothing: these are definitions.
+use Prim.Native.Nat.{ℕ}
+use mathlib.Core.Bool.{Bool, cond}
+use lib.Dec.{leb}
+use Rattle.words.specs.Words.{genus, conductor, closed}
+use Rattle.words.specs.Elements.{multiplicity}
+use Rattle.words.specs.declared.Refusal.{Refusal}
+use Rattle.words.specs.declared.Refusal.the-variants.{TooManyGaps, NotClosed, GenusTooLarge, WalkOutOfOrder, NotAGenerator, ListTooShort, ZeroGenerator, CommonDivisor, TooManyGapsGenerated, MalformedInput}
+use Rattle.words.specs.declared.Report.{Report}
+use Rattle.words.specs.declared.NumberAnswer.{NumberAnswer}
+use Rattle.words.specs.declared.NumberAnswer.the-variants as N
+use Rattle.words.specs.declared.LookAnswer.{LookAnswer}
+use Rattle.words.specs.declared.LookAnswer.the-variants as L
+
+-- an answer: refused with the number of the question that is answered no, or given a value
+pub data Answer (A : Type 0) : Type 0 where
+  refused : ℕ → Answer A
+  given : A → Answer A
+
+-- the number of the question that is answered no
+abbrev pub numberOf : Refusal → ℕ
+numberOf TooManyGaps = 1
+numberOf NotClosed = 2
+numberOf GenusTooLarge = 3
+numberOf WalkOutOfOrder = 4
+numberOf NotAGenerator = 5
+numberOf ListTooShort = 6
+numberOf ZeroGenerator = 7
+numberOf CommonDivisor = 8
+numberOf TooManyGapsGenerated = 9
+numberOf MalformedInput = 10
+
+-- what the cases of `NumberAnswer` say
+abbrev pub answered : NumberAnswer → Answer ℕ
+answered (N.Refused r) = refused (numberOf r)
+answered (N.Given n) = given n
+
+-- a question before work: what follows where it is answered no, and what where it is answered yes
+abbrev pub ask : {A : Type 0} → Bool → A → A → A
+ask question no-answer answer = cond question answer no-answer
+
+-- questions 1 and 2: has the word at most 32 gaps, and is its set closed under addition
+unfoldable pub askWord : {A : Type 0} → (ℕ → A) → ℕ → A → A
+askWord refuse w answer = ask (leb (genus w) 32) (refuse 1) (ask (closed w) (refuse 2) answer)
+
+-- ---- a look at a word
+
+-- what is told of an accepted word
+unfoldable pub reportOf : ℕ → Report
+reportOf w = record { genus = genus w; multiplicity = multiplicity w; conductor = conductor w }
+
+unfoldable pub lookOf : ℕ → Answer Report
+lookOf w = askWord refused w (given (reportOf w))
+
+-- what the cases of `LookAnswer` say
+abbrev pub looked : LookAnswer → Answer Report
+looked (L.Refused r) = refused (numberOf r)
+looked (L.Given r) = given r

@@ -1,0 +1,43 @@
+-- The genus list: the gap words of the numerical semigroups of a genus, in list order. Assumes nothing: these are definitions.
+use Prim.Native.Nat.{ℕ, zero, suc, _-_, _^_, _<_}
+use mathlib.Core.Path.{_≡_}
+use mathlib.Core.Logic.{_⊎_}
+use mathlib.Core.List.{List, [], _∷_, map, List·Memᴰ}
+use lib.ListN.{length}
+use Rattle.words.specs.Lists.{run, keep, joined, begins, Ordered}
+use Rattle.words.specs.Sets.{Set, NumericalSemigroup, HasGenus}
+use Rattle.words.specs.Words.{setOf, gaps, wordOf, closed}
+
+-- all rising lists of r numbers, each at least lo and at most 64, in list order
+unfoldable pub risings : ℕ → ℕ → List (List ℕ)
+risings zero lo = [] ∷ []
+risings (suc r) lo = joined (λ x. map (λ l. x ∷ l) (risings r (suc x))) (run lo (65 - lo))
+
+-- of the gap sets of g numbers from 1 to 64, in list order, the words of those that are closed
+unfoldable pub genusList : ℕ → List ℕ
+genusList g = keep closed (map wordOf (risings g 1))
+
+-- the words of the genus list of g whose smallest gaps are exactly the gaps of w
+unfoldable pub descendants : ℕ → ℕ → List ℕ
+descendants g w = keep (λ v. begins (gaps w) (gaps v)) (genusList g)
+
+-- how many they are
+unfoldable pub descendantCount : ℕ → ℕ → ℕ
+descendantCount g w = length (descendants g w)
+
+-- list order: at the first place where two lists of gaps differ, the first list has the smaller gap
+unfoldable pub Before : List ℕ → List ℕ → Type 0
+Before [] m = ⊥
+Before (x ∷ l) [] = ⊥
+Before (x ∷ l) (y ∷ m) = (x < y) ⊎ ((x ≡ y) × Before l m)
+
+-- the word v comes before the word w in list order
+abbrev pub Earlier : ℕ → ℕ → Type 0
+Earlier v w = Before (gaps v) (gaps w)
+
+-- l has the words of all numerical semigroups of genus g and no other, in list order, each exactly once
+pub record AllOfGenus (g : ℕ) (l : List ℕ) : Type 0 where
+  pub only : (w : ℕ) → List·Memᴰ w l → (w < 2 ^ 64) × NumericalSemigroup (setOf w) × HasGenus (setOf w) g
+  pub all : (S : Set) → NumericalSemigroup S → HasGenus S g → (w : ℕ) × ((x : ℕ) → setOf w x ≡ S x) × List·Memᴰ w l
+  pub ordered : Ordered Earlier l
+  pub once : (w : ℕ) (i j : List·Memᴰ w l) → i ≡ j

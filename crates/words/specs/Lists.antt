@@ -1,0 +1,57 @@
+-- Lists by which the atlas's definitions are written. Assumes nothing: these are definitions.
+use Prim.Native.Nat.{ℕ, zero, suc, _+_}
+use mathlib.Core.Bool.{Bool, true, false, cond, _&&_}
+use mathlib.Core.List.{List, [], _∷_, _++_, List·Memᴰ}
+use lib.Dec.{eqb}
+
+-- n numbers in a row, from a on
+unfoldable pub run : ℕ → ℕ → List ℕ
+run a zero = []
+run a (suc n) = a ∷ run (suc a) n
+
+-- x in front of l where the test passed
+unfoldable pub keepIf : {A : Type 0} → Bool → A → List A → List A
+keepIf true x l = x ∷ l
+keepIf false x l = l
+
+-- those that pass the test, in their order
+unfoldable pub keep : {A : Type 0} → (A → Bool) → List A → List A
+unfolding keepIf
+keep p [] = []
+keep p (x ∷ l) = keepIf (p x) x (keep p l)
+
+-- does every one pass the test
+unfoldable pub every : {A : Type 0} → (A → Bool) → List A → Bool
+every p [] = true
+every p (x ∷ l) = p x && every p l
+
+-- f of each, joined
+unfoldable pub joined : {A B : Type 0} → (A → List B) → List A → List B
+joined f [] = []
+joined f (x ∷ l) = f x ++ joined f l
+
+-- the sum of f of each
+unfoldable pub sumOver : {A : Type 0} → (A → ℕ) → List A → ℕ
+sumOver f [] = 0
+sumOver f (x ∷ l) = f x + sumOver f l
+
+-- the last number of l, and d where there is none
+unfoldable pub lastOr : ℕ → List ℕ → ℕ
+lastOr d [] = d
+lastOr d (x ∷ l) = lastOr x l
+
+-- does the second list begin with the first
+unfoldable pub begins : List ℕ → List ℕ → Bool
+begins [] l = true
+begins (x ∷ k) [] = false
+begins (x ∷ k) (y ∷ l) = eqb x y && begins k l
+
+-- l from its first x on
+unfoldable pub onFrom : ℕ → List ℕ → List ℕ
+onFrom x [] = []
+onFrom x (y ∷ l) = cond (eqb x y) (y ∷ l) (onFrom x l)
+
+-- each stands in the relation R to every later one
+unfoldable pub Ordered : {A : Type 0} → (A → A → Type 0) → List A → Type 0
+Ordered R [] = Unit {0}
+Ordered {A} R (x ∷ l) = ((y : A) → List·Memᴰ y l → R x y) × Ordered R l

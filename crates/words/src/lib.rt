@@ -1,0 +1,162 @@
+// Gap words: the counts that belong to them, the refusals of the atlas, and looking at a word.
+ghost use Prim.Native.Nat.{_+_, _-_, _^_, min};
+ghost use mathlib.Core.Path.{_≡_};
+ghost use Rattle.words.specs.Words.{genus, conductor, closed};
+ghost use Rattle.words.specs.Elements.{multiplicity};
+ghost use Rattle.words.specs.Answers.{numberOf, looked, lookOf};
+
+// An element of a set.
+pub struct Element(pub u64);
+
+// An index in the list of elements.
+pub struct Index(pub u64);
+
+// An offset from the conductor.
+pub struct Offset(pub u64);
+
+impl Element {
+    // The element at an offset from the conductor, or the largest number of 64 bits where it would be larger.
+    pub fn at_offset(conductor: u64, offset: Offset) -> Element
+        ensures { λ r. ⌜ r .0 ≡ min (conductor + offset .0) (2 ^ 64 - 1) ⌝ }
+    {
+        let room = u64::MAX - conductor;
+        if offset.0 <= room {
+            Element(conductor + offset.0)
+        } else {
+            Element(u64::MAX)
+        }
+    }
+}
+
+impl Offset {
+    // The offset of an element from the conductor: 0 for one below it.
+    pub fn of_element(conductor: u64, element: Element) -> Offset
+        ensures { λ r. ⌜ r .0 ≡ element .0 - conductor ⌝ }
+    {
+        Offset(difference(element.0, conductor))
+    }
+}
+
+impl Index {
+    // The index of the conductor, the number of elements below it: the conductor less the genus, and 0 where that is larger.
+    pub fn of_conductor(conductor: u64, genus: u64) -> Index
+        ensures { λ r. ⌜ r .0 ≡ conductor - genus ⌝ }
+    {
+        Index(difference(conductor, genus))
+    }
+}
+
+// The first number less the second, and 0 where the second is larger.
+fn difference(from: u64, by: u64) -> u64
+    ensures { λ r. ⌜ r ≡ from - by ⌝ }
+{
+    if from < by {
+        return 0;
+    }
+    from - by
+}
+
+// What is wrong with the arguments of a call: the question that they fail.
+pub enum Refusal {
+    TooManyGaps,
+    NotClosed,
+    GenusTooLarge,
+    WalkOutOfOrder,
+    NotAGenerator,
+    ListTooShort,
+    ZeroGenerator,
+    CommonDivisor,
+    TooManyGapsGenerated,
+    MalformedInput,
+}
+
+impl Refusal {
+    // The number of the question.
+    pub fn number(self) -> u64
+        ensures { λ r. ⌜ r ≡ numberOf self ⌝ }
+    {
+        match self {
+            Refusal::TooManyGaps => 1,
+            Refusal::NotClosed => 2,
+            Refusal::GenusTooLarge => 3,
+            Refusal::WalkOutOfOrder => 4,
+            Refusal::NotAGenerator => 5,
+            Refusal::ListTooShort => 6,
+            Refusal::ZeroGenerator => 7,
+            Refusal::CommonDivisor => 8,
+            Refusal::TooManyGapsGenerated => 9,
+            Refusal::MalformedInput => 10,
+        }
+    }
+}
+
+// What is told of an accepted word.
+pub struct Report {
+    pub genus: u64,
+    pub multiplicity: u64,
+    pub conductor: u64,
+}
+
+// The answer of a call that gives a number.
+pub enum NumberAnswer {
+    Refused(Refusal),
+    Given(u64),
+}
+
+// The answer to a look at a word.
+pub enum LookAnswer {
+    Refused(Refusal),
+    Given(Report),
+}
+
+// The number of gaps: the standing bits.
+fn genus_of(word: u64) -> u64
+    ensures { λ r. ⌜ r ≡ genus word ⌝ }
+{
+    u64::count_ones(word) as u64
+}
+
+// The least positive element: one more than the place of the lowest clear bit.
+fn multiplicity_of(word: u64) -> u64
+    ensures { λ r. ⌜ r ≡ multiplicity word ⌝ }
+{
+    u64::trailing_zeros(!word) as u64 + 1
+}
+
+// The largest gap plus 1: two more than the place of the highest standing bit.
+fn conductor_of(word: u64) -> u64
+    ensures { λ r. ⌜ r ≡ conductor word ⌝ }
+{
+    65 - u64::leading_zeros(word) as u64
+}
+
+// Is the set closed under addition? The positive elements moved up by an element `a` are sums, none of which may be a gap.
+fn is_closed(word: u64) -> bool
+    ensures { λ r. ⌜ r ≡ closed word ⌝ }
+{
+    let elements = !word;
+    for a in 1..64u64 {
+        if elements >> (a - 1) & 1 == 1 && (elements << a) & word != 0 {
+            return false;
+        }
+    }
+    true
+}
+
+// Looks at a word: refused with more than 32 gaps or a set that is not closed under addition, else what is told of it.
+pub fn look(word: u64) -> LookAnswer
+    ensures { λ r. ⌜ looked r ≡ lookOf word ⌝ }
+{
+    let genus = genus_of(word);
+    if 32 < genus {
+        return LookAnswer::Refused(Refusal::TooManyGaps);
+    }
+    if !is_closed(word) {
+        return LookAnswer::Refused(Refusal::NotClosed);
+    }
+    LookAnswer::Given(Report {
+        genus,
+        multiplicity: multiplicity_of(word),
+        conductor: conductor_of(word),
+    })
+}
