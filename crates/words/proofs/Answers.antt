@@ -13,7 +13,7 @@ use Rattle.words.specs.Words.{setOf, genus, closed}
 use Rattle.words.specs.declared.Refusal.{Refusal}
 use Rattle.words.specs.declared.Refusal.the-variants.{TooManyGaps, NotClosed, GenusTooLarge, WalkOutOfOrder, NotAGenerator, ListTooShort, ZeroGenerator, CommonDivisor, TooManyGapsGenerated, MalformedInput}
 use Rattle.words.specs.declared.Report.{Report}
-use Rattle.words.specs.Answers.{Answer, refused, given, numberOf, ask, askWord, reportOf, lookOf}
+use Rattle.words.specs.Answers.{refused, given, numberOf, ask, askWord, reportOf, lookOf}
 use Rattle.words.proofs.Closure.{closed-iff}
 
 -- ---- numbers of refusals
@@ -51,33 +51,43 @@ pub record Accepted (w : ℕ) : Type 0 where
   pub sums : closed w ≡ true
   pub few : genus w ≤ 32
 
-module _ {A : Type 0} (refuse : ℕ → A) (w : ℕ) (answer : A) where
-  -- an accepted word is not refused
-  pub asked : Accepted w → askWord refuse w answer ≡ answer
-  unfolding askWord
-  asked h = simp (le-leb (genus w) 32 (h .few), h .sums)
+-- an accepted word is not refused
+pub asked : {A : Type 0} (refuse : ℕ → A) (w : ℕ) (answer : A) → Accepted w → askWord refuse w answer ≡ answer
+unfolding askWord
+asked refuse w answer h = simp (le-leb (genus w) 32 (h .few), h .sums)
 
-  -- a word that is refused by a look is refused so by each call
-  pub asked-refused : (n : ℕ) → lookOf w ≡ refused n → askWord refuse w answer ≡ refuse n
-  unfolding lookOf askWord
-  asked-refused n e = by-questions (leb (genus w) 32) (closed w) e
+-- what the answer of one call on a word, which gives this value, tells another
+module _ {B : Type 0} (w : ℕ) (value : B) where
+  -- a word that is refused by one call is refused so by each call
+  pub word-refused : {A : Type 0} (refuse : ℕ → A) (answer : A) (n : ℕ) → askWord refused w (given value) ≡ refused n → askWord refuse w answer ≡ refuse n
+  unfolding askWord
+  word-refused refuse answer n e = by-questions (leb (genus w) 32) (closed w) e
     where
-      by-questions : (few sums : Bool) → ask few (refused 1) (ask sums (refused 2) (given (reportOf w))) ≡ refused n
+      by-questions : (few sums : Bool) → ask few (refused 1) (ask sums (refused 2) (given value)) ≡ refused n
           → ask few (refuse 1) (ask sums (refuse 2) answer) ≡ refuse n
       by-questions true true e = let z : _≡_ {A = ℕ} 0 1 = cc in absurd (omega arith)
       by-questions true false e = let same : 2 ≡ n = cc in ap refuse same
       by-questions false sums e = let same : 1 ≡ n = cc in ap refuse same
 
--- a report is given just of accepted words, and it is theirs
+  -- a value is given just of accepted words, and it is theirs
+  pub word-given : (r : B) → askWord refused w (given value) ≡ given r → Accepted w × (r ≡ value)
+  unfolding askWord
+  word-given r e = by-questions (leb (genus w) 32) refl (closed w) refl e
+    where
+      by-questions : (few : Bool) → leb (genus w) 32 ≡ few → (sums : Bool) → closed w ≡ sums
+          → ask few (refused 1) (ask sums (refused 2) (given value)) ≡ given r → Accepted w × (r ≡ value)
+      by-questions true p true q e = let same : r ≡ value = cc in (record { sums = q; few = leb-true (genus w) 32 p }, same)
+      by-questions true p false q e = let z : _≡_ {A = ℕ} 0 1 = cc in absurd (omega arith)
+      by-questions false p sums q e = let z : _≡_ {A = ℕ} 0 1 = cc in absurd (omega arith)
+
+-- the same of a look
+pub asked-refused : {A : Type 0} (refuse : ℕ → A) (w : ℕ) (answer : A) (n : ℕ) → lookOf w ≡ refused n → askWord refuse w answer ≡ refuse n
+unfolding lookOf
+asked-refused refuse w answer n e = word-refused w (reportOf w) refuse answer n e
+
 pub look-given : (w : ℕ) (r : Report) → lookOf w ≡ given r → Accepted w × (r ≡ reportOf w)
-unfolding lookOf askWord
-look-given w r e = by-questions (leb (genus w) 32) refl (closed w) refl e
-  where
-    by-questions : (few : Bool) → leb (genus w) 32 ≡ few → (sums : Bool) → closed w ≡ sums
-        → ask few (refused 1) (ask sums (refused 2) (given (reportOf w))) ≡ given r → Accepted w × (r ≡ reportOf w)
-    by-questions true p true q e = let same : r ≡ reportOf w = cc in (record { sums = q; few = leb-true (genus w) 32 p }, same)
-    by-questions true p false q e = let z : _≡_ {A = ℕ} 0 1 = cc in absurd (omega arith)
-    by-questions false p sums q e = let z : _≡_ {A = ℕ} 0 1 = cc in absurd (omega arith)
+unfolding lookOf
+look-given w r e = word-given w (reportOf w) r e
 
 -- demand 2: a word of 64 bits is accepted just where its set is closed under addition and it has at most 32 gaps
 pub accepted-iff : (w : ℕ) → w < 2 ^ 64 → (lookOf w ≡ given (reportOf w)) ↔ (ClosedUnderAddition (setOf w) × (genus w ≤ 32))

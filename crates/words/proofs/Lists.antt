@@ -2,18 +2,18 @@
 use Prim.Native.Nat.{ℕ, zero, suc, _+_, _-_, _^_, _≤_, _<_}
 use mathlib.Core.Path.{_≡_, refl, sym, _∙_, ap, ap₂, subst}
 use mathlib.Core.Logic.{_⊎_, inl, inr, _↔_, ⊎-elim}
-use mathlib.Core.Bool.{Bool, true, false, _&&_, and-assoc, and-eq-true-iff}
-use mathlib.Core.List.{List, [], _∷_, _++_, append-assoc, map, map-append, List·Memᴰ, List·Memᴰ·head, List·Memᴰ·tail, List·Memᴰ·not-nil, List·Memᴰ·cases-cons, Memᴰ·cast, Memᴰ·append-left, Memᴰ·append-right, List·Memᴰ·append-cases, Memᴰ·of-map}
+use mathlib.Core.Bool.{Bool, true, false, _&&_, and-assoc, and-eq-true-iff, not, _||_, and-true, Bool·not-not}
+use mathlib.Core.List.{List, [], _∷_, _++_, append-assoc, map, map-append, List·Memᴰ, List·Memᴰ·head, List·Memᴰ·tail, List·Memᴰ·not-nil, List·Memᴰ·cases-cons, Memᴰ·cast, Memᴰ·append-left, Memᴰ·append-right, List·Memᴰ·append-cases, Memᴰ·of-map, append-nil}
 use native.Mathlib.Omega.{arith}
 use native.Mathlib.Nat.{add-zero, zero-add, suc-add, add-suc, eq-or-lt-of-le, le-of-eq, le-trans, le-of-lt, le-dest, pow-suc}
 use native.Mathlib.Numerals.{add-one}
 use lib.Dec.{eqb}
 use lib.ListN.{length, getD, take, drop, length-append, take-append-drop}
 use lib.Pow.{pow-mono}
-use lib.Seq.{take-append-seam}
+use lib.Seq.{take-append-seam, drop-cons}
 use borrow.Author.Tests.{eq-eqb, ne-eqb, eqb-true}
 use Rattle.words.specs.Lists.{run, keep, keepIf, every, joined, sumOver, lastOr, begins, onFrom, Ordered}
-use Rattle.words.proofs.Booleans.{not-both, by-value}
+use Rattle.words.proofs.Booleans.{not-both, by-value, not-and}
 
 -- ---- run
 
@@ -158,6 +158,14 @@ module _ {A : Type 0} where
   unfolding every
   every-append p [] l = refl
   every-append p (x ∷ k) l = ap (λ (b : Bool). p x && b) (every-append p k l) ∙ sym (and-assoc (p x) (every p k) (every p l))
+
+  -- does one of l pass p, or does x, behind it
+  pub some-more : (p : A → Bool) (l : List A) (x : A) → not (every (λ a. not (p a)) (l ++ x ∷ [])) ≡ (not (every (λ a. not (p a)) l) || p x)
+  unfolding every
+  some-more p l x =
+      let q : A → Bool = λ a. not (p a) in
+      ap not (every-append q l (x ∷ [])) ∙ not-and (every q l) (q x && true)
+      ∙ ap (λ (b : Bool). not (every q l) || b) (ap not (and-true (q x)) ∙ Bool·not-not (p x))
 
   -- ---- order
 
@@ -385,6 +393,34 @@ on-from R irrefl (y ∷ k) l x o =
     rw (ne-eqb x y (λ e. irrefl x (subst (λ (z : ℕ). R z x) (sym e) (o .0 x (mem-middle k l x)))))
     (on-from R irrefl k l x (o .1))
 
+-- in order, the least is the first
+pub first-least : (l : List ℕ) (x d : ℕ) → Ordered _<_ l → List·Memᴰ x l → ((y : ℕ) → List·Memᴰ y l → x ≤ y) → getD l 0 d ≡ x
+unfolding Ordered
+first-least [] x d o m least = absurd (List·Memᴰ·not-nil m)
+first-least (y ∷ l) x d o (List·Memᴰ·head e) least = sym e
+first-least (y ∷ l) x d o (List·Memᴰ·tail m) least = absurd (omega (arith, o .0 x m, least y (List·Memᴰ·head refl)))
+
+-- ---- one number or one member more
+
+-- what passes among one number more
+module _ (p : ℕ → Bool) (a n : ℕ) where
+  keep-more : keep p (run a (n + 1)) ≡ keep p (run a n) ++ keep p ((a + n) ∷ [])
+  unfolding run
+  keep-more = ap (keep p) (run-append a n 1) ∙ keep-append p (run a n) ((a + n) ∷ [])
+
+  pub keep-more-in : p (a + n) ≡ true → keep p (run a (n + 1)) ≡ keep p (run a n) ++ (a + n) ∷ []
+  unfolding keep
+  keep-more-in e = keep-more ∙ ap (λ (l : List ℕ). keep p (run a n) ++ l) (keep-in p (a + n) [] e)
+
+  pub keep-more-out : p (a + n) ≡ false → keep p (run a (n + 1)) ≡ keep p (run a n)
+  unfolding keep
+  keep-more-out e = keep-more ∙ ap (λ (l : List ℕ). keep p (run a n) ++ l) (keep-out p (a + n) [] e) ∙ append-nil (keep p (run a n))
+
+-- every member from an index on, with the first of them apart
+pub every-from : (p : ℕ → Bool) (l : List ℕ) (i : ℕ) → i < length l → every p (drop i l) ≡ (p (getD l i 0) && every p (drop (i + 1) l))
+unfolding every
+every-from p l i h = ap (every p) (drop-cons l i 0 h) ∙ ap (λ (j : ℕ). p (getD l i 0) && every p (drop j l)) (sym (add-one i))
+
 -- ---- a list that begins with another
 
 pub begins-append : (k l : List ℕ) → begins k (k ++ l) ≡ true
@@ -409,6 +445,11 @@ begins-iff k l = (
 )
 
 -- ---- sums
+
+pub sum-append : {A : Type 0} (f : A → ℕ) (k l : List A) → sumOver f (k ++ l) ≡ sumOver f k + sumOver f l
+unfolding sumOver
+sum-append f [] l = omega arith
+sum-append f (x ∷ k) l = omega (arith, sum-append f k l)
 
 -- along rising numbers from c to n - 1, what is at most 2 ^ (n - 1 - x) for x is together at most 2 ^ (n - c)
 pub sum-of-powers : (f : ℕ → ℕ) (n c : ℕ) (l : List ℕ) → Ordered _<_ l → ((x : ℕ) → List·Memᴰ x l → (c ≤ x) × (x < n) × (f x ≤ 2 ^ (n - suc x)))

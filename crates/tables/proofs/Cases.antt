@@ -1,0 +1,33 @@
+-- The known tables, children and nodes, computed from the definitions. Assumes nothing.
+use Prim.Native.Nat.{ℕ}
+use mathlib.Core.Path.{_≡_, refl}
+use mathlib.Core.List.{[], _∷_, map}
+use Rattle.words.specs.Lists.{run, keep, keepIf, every, joined, lastOr}
+use Rattle.words.specs.Sets.{sumOfTwo}
+use Rattle.words.specs.Words.{bit, setOf, gaps, genus, digit, largestGap, conductor, closed, childWord}
+use Rattle.words.specs.Elements.{elementsBelow, elementAt, generator}
+use Rattle.words.specs.Answers.{refused, given, askWord}
+use Rattle.tables.specs.Seeds.{leftAfter, seed, row, seedBits, ofBits, seedTable}
+use Rattle.tables.specs.Nodes.{nodeOf}
+use Rattle.tables.specs.Answers.{nodeAnswer, tableOf, childOf}
+
+-- the tables of the words 0, 1, 5, 111, 91 and 13, and of the word of the gaps 1 to 33
+pub known-tables : map tableOf (0 ∷ 1 ∷ 5 ∷ 111 ∷ 91 ∷ 13 ∷ 8589934591 ∷ [])
+    ≡ given 1 ∷ given 3 ∷ given 14 ∷ given 251 ∷ given 237 ∷ refused 2 ∷ refused 1 ∷ []
+unfolding run keep keepIf every joined bit setOf gaps genus lastOr largestGap conductor closed elementsBelow elementAt sumOfTwo leftAfter seed row seedBits digit ofBits seedTable askWord tableOf
+known-tables = refl
+
+-- the nodes of the words 91 and 13
+pub known-nodes : map nodeAnswer (91 ∷ 13 ∷ []) ≡ given (record { word = 91; table = 237; conductor = 8 }) ∷ refused 2 ∷ []
+unfolding run keep keepIf every joined bit setOf gaps genus lastOr largestGap conductor closed elementsBelow elementAt sumOfTwo leftAfter seed row seedBits digit ofBits seedTable nodeOf askWord nodeAnswer
+known-nodes = refl
+
+-- the children of the word 0 at 1 and of the word 1 at 2, 3 and 4
+pub known-children : (childOf 0 1 ≡ given 1) × (map (childOf 1) (2 ∷ 3 ∷ 4 ∷ []) ≡ given 3 ∷ given 5 ∷ refused 5 ∷ [])
+unfolding run keep keepIf every bit setOf gaps genus lastOr largestGap conductor closed sumOfTwo generator childWord askWord childOf
+known-children = (refl, refl)
+
+-- the word of the generators 2 and 65 has genus 32
+pub no-child-at-32 : (e : ℕ) → childOf 6148914691236517205 e ≡ refused 3
+unfolding run keep keepIf every bit setOf gaps genus closed sumOfTwo askWord childOf
+no-child-at-32 e = refl

@@ -1,0 +1,49 @@
+-- The right generators of a word, from the first row of its table. Assumes nothing.
+use Prim.Native.Nat.{ℕ, _+_, _%_, _^_, _≤_, _<_}
+use mathlib.Core.Path.{_≡_, sym, ap, _∙_}
+use mathlib.Core.Bool.{true}
+use mathlib.Core.List.{map, Memᴰ·map, Memᴰ·of-map, Memᴰ·cast}
+use native.Mathlib.Omega.{arith}
+use native.Mathlib.Nat.{le-dest, mod-lt}
+use native.Mathlib.Decide.{decLt}
+use lib.Pow.{pow-pos}
+use Rattle.words.specs.Words.{bit, positions, conductor, genus, closed}
+use Rattle.words.specs.Elements.{multiplicity, generator, rightGenerators}
+use Rattle.words.proofs.Booleans.{is-false}
+use Rattle.words.proofs.Lists.{ordered-map, ordered-unique}
+use Rattle.words.proofs.Bits.{bit-mod, bit-past}
+use Rattle.words.proofs.StandingBits.{positions-mem, mem-positions, positions-ordered}
+use Rattle.words.proofs.Elements.{multiplicity-le-conductor, generator-offset, right-generators-mem, mem-right-generators, right-generators-ordered}
+use Rattle.words.proofs.Closure.{conductor-le-64}
+use Rattle.tables.specs.Seeds.{seedTable}
+use Rattle.tables.proofs.Seeds.{first-row}
+
+module _ (w : ℕ) (fits : w < 2 ^ 64) where
+  -- the first row as a number
+  abbrev row : ℕ
+  row = seedTable w % 2 ^ multiplicity w
+
+  -- its bit d tells whether the conductor plus d is a generator
+  pub row-bit : (d : ℕ) → bit (seedTable w % 2 ^ multiplicity w) d ≡ generator w (conductor w + d)
+  row-bit d = elim (decLt d (multiplicity w)) [
+    | yes h ↦ bit-mod (seedTable w) (multiplicity w) d h ∙ first-row w fits d h
+    | no h ↦ bit-past row (multiplicity w) d (mod-lt (seedTable w) (pow-pos (multiplicity w))) (omega arith)
+        ∙ sym (is-false (generator w (conductor w + d)) (λ g. h (generator-offset w fits d g)))
+  ]
+
+  -- the offsets of the right generators from the conductor are the positions of the bits that stand in the first row
+  pub right-generators-row : closed w ≡ true → genus w ≤ 32
+      → rightGenerators w ≡ map (λ d. conductor w + d) (positions (seedTable w % 2 ^ multiplicity w))
+  right-generators-row c h =
+      ordered-unique _<_ (λ x y p q. omega arith) (rightGenerators w) (map (λ d. conductor w + d) (positions row)) (right-generators-ordered w fits)
+      (ordered-map _<_ _<_ (λ d. conductor w + d) (positions row) (positions-ordered row) (λ x y m n l. omega arith))
+      (λ x m.
+      let (high, g) = right-generators-mem w fits m in
+      let (d, e) = le-dest high in
+      let g′ = ap (generator w) e ∙ g in
+      let l = generator-offset w fits d g′ in
+      Memᴰ·cast (sym e) (Memᴰ·map (λ d. conductor w + d)
+      (mem-positions row d (omega (arith, multiplicity-le-conductor w fits, conductor-le-64 w fits c h)) (row-bit d ∙ g′))))
+      (λ x m.
+      let (d, i, e) = Memᴰ·of-map (λ d. conductor w + d) (positions row) m in
+      mem-right-generators w fits x (omega arith) (ap (generator w) (sym e) ∙ sym (row-bit d) ∙ positions-mem row i .1))

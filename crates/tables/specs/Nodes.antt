@@ -1,0 +1,42 @@
+-- A semigroup under way: its word, table and conductor together, its child, its first row, and the way to a descendant. Assumes
+-- nothing: these are definitions.
+use Prim.Native.Nat.{ℕ, _+_, _-_, _%_, _^_}
+use mathlib.Core.Bool.{cond}
+use lib.Bits.{bitOr}
+use lib.Dec.{eqb, leb, ltb}
+use lib.ListN.{getD}
+use Rattle.words.specs.Lists.{keep}
+use Rattle.words.specs.Words.{gaps, conductor}
+use Rattle.words.specs.Elements.{multiplicity}
+use Rattle.tables.specs.Seeds.{seedTable}
+use Rattle.tables.specs.Child.{childTable}
+use Rattle.tables.specs.declared.Node.{Node}
+
+-- the node of the word w
+unfoldable pub nodeOf : ℕ → Node
+nodeOf w = record { word = w; table = seedTable w; conductor = conductor w }
+
+-- the one child of the word 0: the word 1 with table 11
+abbrev pub rootChild : Node
+rootChild = record { word = 1; table = 3; conductor = 2 }
+
+-- the child of a node at the offset d from its conductor c, by lemma 3.1
+unfoldable pub childAt : Node → ℕ → Node
+childAt n d = record {
+  word = bitOr (n .word) (2 ^ (n .conductor + d - 1));
+  table = childTable (n .word) (n .table) (n .conductor) d;
+  conductor = n .conductor + d + 1;
+}
+
+-- the same for all nodes: the word 0 has one child; where c is below 2 or c + d above 63 there is none, and the node stays
+unfoldable pub childNode : Node → ℕ → Node
+childNode n d =
+    cond (eqb (n .word) 0) rootChild (cond (ltb (n .conductor) 2) n (cond (ltb 63 (n .conductor + d)) n (childAt n d)))
+
+-- row 0 of a node's table as a number: it has as many bits as the multiplicity
+unfoldable pub firstRow : Node → ℕ
+firstRow n = n .table % 2 ^ multiplicity (n .word)
+
+-- the offset from c of the first gap of v that is not below c, and 0 where there is none or c is 0
+unfoldable pub nextOffset : ℕ → ℕ → ℕ
+nextOffset c v = cond (ltb 0 c) (getD (keep (leb c) (gaps v)) 0 c - c) 0

@@ -1,0 +1,188 @@
+// Seed tables: a semigroup under way, which carries its word, table and conductor and gives its own child, and the calls on words.
+ghost use Prim.Native.Nat.{_^_, _<_, _≤_};
+ghost use mathlib.Core.Path.{_≡_};
+ghost use mathlib.Core.Bool.{true};
+ghost use Rattle.words.specs.Words.{genus, closed};
+ghost use Rattle.words.specs.Answers.{answered};
+ghost use Rattle.tables.specs.Child.{raked};
+ghost use Rattle.tables.specs.Nodes.{nodeOf, childNode, firstRow, nextOffset};
+ghost use Rattle.tables.specs.Answers.{noded, nodeAnswer, tableOf, childOf};
+use words::Element;
+use words::LookAnswer;
+use words::NumberAnswer;
+use words::Offset;
+use words::Refusal;
+
+// A semigroup under way.
+pub struct Node {
+    pub word: u64,
+    pub table: u64,
+    pub conductor: u64,
+}
+
+// The answer of a call that gives a node.
+pub enum NodeAnswer {
+    Refused(Refusal),
+    Given(Node),
+}
+
+// The table with d rakings: each moves the word up by one place and keeps of the table what stands there too.
+fn rake(word: u64, table: u64, d: u64) -> u64
+    ensures { λ r. ⌜ r ≡ raked word table d ⌝ }
+{
+    let mut moved = word;
+    let mut s = table;
+    for _ in 0..d {
+        moved = moved << 1;
+        s = s & moved;
+    }
+    s
+}
+
+impl Node {
+    // The node of the word 0.
+    pub fn root() -> Node
+        ensures { λ r. ⌜ r ≡ nodeOf 0 ⌝ }
+    {
+        Node {
+            word: 0,
+            table: 1,
+            conductor: 1,
+        }
+    }
+
+    // The child at an offset from the conductor: the semigroup without the generator there.
+    pub fn child(self, d: Offset) -> Node
+        ensures { λ r. ⌜ r ≡ childNode self (d .0) ⌝ }
+    {
+        let w = self.word;
+        let c = self.conductor;
+        let k = d.0;
+        if w == 0 {
+            return Node {
+                word: 1,
+                table: 3,
+                conductor: 2,
+            };
+        }
+        if c < 2 {
+            return self;
+        }
+        if 63 < c {
+            return self;
+        }
+        if 63 - c < k {
+            return self;
+        }
+        let s = rake(w, self.table, k);
+        Node {
+            word: w | (1 << (c + k - 1)),
+            table: (s >> (k + 1)) | (7 << (c + k - 2)),
+            conductor: c + k + 1,
+        }
+    }
+
+    // Row 0 of the table: the offsets of the generators not below the conductor, as bits.
+    pub fn first_row(self) -> u64
+        ensures { λ r. ⌜ r ≡ firstRow self ⌝ }
+    {
+        let w = self.word;
+        self.table & (w ^ std::num::wrapping_add_u64(w, 1))
+    }
+
+    // The offset of the word's first gap not below the conductor.
+    pub fn next_offset(self, word: u64) -> Offset
+        ensures { λ r. ⌜ r .0 ≡ nextOffset (self .conductor) word ⌝ }
+    {
+        let c = self.conductor;
+        if c == 0 {
+            return Offset(0);
+        }
+        if 64 < c {
+            return Offset(0);
+        }
+        let later = word >> (c - 1);
+        if later == 0 {
+            return Offset(0);
+        }
+        Offset(u64::trailing_zeros(later) as u64)
+    }
+}
+
+// The node of an accepted word: down the tree from the word 0, one gap of the word after the other.
+fn reached(word: u64) -> Node
+    requires { ⌜ closed word ≡ true ⌝ }
+    requires { ⌜ genus word ≤ 32 ⌝ }
+    ensures { λ r. ⌜ r ≡ nodeOf word ⌝ }
+{
+    let mut n = Node::root();
+    while n.word != word {
+        n = n.child(n.next_offset(word));
+    }
+    n
+}
+
+// The node of a word: refused with more than 32 gaps or a set that is not closed under addition.
+pub fn node_of(word: u64) -> NodeAnswer
+    ensures { λ r. ⌜ noded r ≡ nodeAnswer word ⌝ }
+{
+    let answer = words::look(word);
+    match answer {
+        LookAnswer::Refused(r) => NodeAnswer::Refused(r),
+        LookAnswer::Given(_) => NodeAnswer::Given(reached(word)),
+    }
+}
+
+// The seed table of a word, with the same refusals.
+pub fn seed_table(word: u64) -> NumberAnswer
+    ensures { λ r. ⌜ answered r ≡ tableOf word ⌝ }
+{
+    let answer = words::look(word);
+    match answer {
+        LookAnswer::Refused(r) => NumberAnswer::Refused(r),
+        LookAnswer::Given(_) => {
+            let n = reached(word);
+            NumberAnswer::Given(n.table)
+        }
+    }
+}
+
+// The word without an element, from the node of a word of genus 31 at most: refused where the element is no generator or is below
+// the conductor.
+fn removed(n: Node, element: Element) -> NumberAnswer
+    requires { ⌜ n ≡ nodeOf (n .word) ⌝ }
+    requires { ⌜ closed (n .word) ≡ true ⌝ }
+    requires { ⌜ genus (n .word) ≤ 31 ⌝ }
+    ensures { λ r. ⌜ answered r ≡ childOf (n .word) (element .0) ⌝ }
+{
+    let c = n.conductor;
+    if element.0 < c {
+        return NumberAnswer::Refused(Refusal::NotAGenerator);
+    }
+    let d = Offset::of_element(c, element);
+    if 63 < d.0 {
+        return NumberAnswer::Refused(Refusal::NotAGenerator);
+    }
+    if n.first_row() >> d.0 & 1 != 1 {
+        return NumberAnswer::Refused(Refusal::NotAGenerator);
+    }
+    let next = n.child(d);
+    NumberAnswer::Given(next.word)
+}
+
+// The word of the child without an element: the refusals of a look, and then at genus 32, and where the element is no generator or is
+// below the conductor.
+pub fn child(word: u64, element: Element) -> NumberAnswer
+    ensures { λ r. ⌜ answered r ≡ childOf word (element .0) ⌝ }
+{
+    let answer = words::look(word);
+    match answer {
+        LookAnswer::Refused(r) => NumberAnswer::Refused(r),
+        LookAnswer::Given(report) => {
+            if 31 < report.genus {
+                return NumberAnswer::Refused(Refusal::GenusTooLarge);
+            }
+            removed(reached(word), element)
+        }
+    }
+}
