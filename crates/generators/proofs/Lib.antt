@@ -1,0 +1,10 @@
+pub mod Divisors
+pub mod Sums
+pub mod Few
+pub mod Writing
+pub mod MinimalGenerators
+pub mod WordFrom
+pub mod BitSets
+pub mod Scan
+pub mod LowGenerators
+pub mod Cases

@@ -1,0 +1,152 @@
+-- The minimal generators of a word: they are all its generators, and the elements are their sums. Assumes nothing.
+use Prim.Native.Nat.{ℕ, zero, suc, _+_, _^_, _≤_, _<_, _∣_}
+use mathlib.Core.Path.{_≡_, refl, sym, ap, subst, _∙_}
+use mathlib.Core.Bool.{Bool, true, false, not, _&&_, and-eq-true-iff}
+use mathlib.Core.List.{List, _++_, List·Memᴰ, Memᴰ·cast}
+use native.Mathlib.Omega.{arith}
+use native.Mathlib.Nat.{le-dest, le-refl, dvd-add-iff-right, eq-one-of-dvd-one}
+use lib.Dec.{ltb, leb}
+use lib.ListN.{length}
+use borrow.Author.Tests.{ltb-true, ltb-false, lt-ltb, leb-true, le-leb, lt-leb, not-true}
+use Rattle.words.specs.Lists.{run, keep, Ordered}
+use Rattle.words.specs.Sets.{sumOfTwo}
+use Rattle.words.specs.Words.{setOf, genus, conductor, closed}
+use Rattle.words.specs.Elements.{multiplicity, generator, rightGenerators}
+use Rattle.words.specs.Answers.{given, ask, askWord}
+use Rattle.words.proofs.Booleans.{not-both, by-value, true-together}
+use Rattle.words.proofs.Lists.{mem-run, run-below, keep-mem, mem-keep, keep-append, ordered-run, ordered-keep}
+use Rattle.words.proofs.Sets.{sum-of, sum-found}
+use Rattle.words.proofs.Elements.{multiplicity-le-conductor, element-from-conductor, generator-offset}
+use Rattle.words.proofs.Closure.{closed-iff, conductor-le-64}
+use Rattle.words.proofs.Answers.{Accepted, asked}
+use Rattle.generators.specs.Divisors.{gcdOf}
+use Rattle.generators.specs.Sums.{SumOf, spans}
+use Rattle.generators.specs.Generators.{minimalGenerators, written, Listing, unchanged, filled, generatorsOf}
+use Rattle.generators.proofs.Divisors.{gcd-divides}
+use Rattle.generators.proofs.Sums.{sum-zero, sum-add, sum-member, sum-split, spans-iff, sum-in, divides-sum}
+
+-- a generator is a positive element that is no sum of two positive elements
+pub generator-parts : (w x : ℕ) → generator w x ≡ true → (0 < x) × (setOf w x ≡ true) × (sumOfTwo (setOf w) x ≡ false)
+unfolding generator
+generator-parts w x e =
+    let (p, q) = and-eq-true-iff (ltb 0 x && setOf w x) (not (sumOfTwo (setOf w) x)) .0 e in
+    let (r, s) = and-eq-true-iff (ltb 0 x) (setOf w x) .0 p in
+    (ltb-true 0 x r, s, not-true _ q)
+
+-- and what is one is a generator
+pub generator-of : (w x : ℕ) → 0 < x → setOf w x ≡ true → sumOfTwo (setOf w) x ≡ false → generator w x ≡ true
+unfolding generator
+generator-of w x pos e f = rw (lt-ltb 0 x pos, e, f)
+
+module _ (w : ℕ) (fits : w < 2 ^ 64) where
+  -- each lies below the conductor plus the multiplicity
+  pub generator-below : (x : ℕ) → generator w x ≡ true → x < conductor w + multiplicity w
+  generator-below x e =
+      by-value (ltb x (conductor w)) (λ l. omega (arith, ltb-true x (conductor w) l))
+      (λ l. let (d, q) = le-dest (ltb-false x (conductor w) l) in omega (arith, generator-offset w fits d (ap (generator w) q ∙ e)))
+
+  -- the list holds just the generators
+  pub generators-mem : {x : ℕ} → List·Memᴰ x (minimalGenerators w) → generator w x ≡ true
+  unfolding minimalGenerators
+  generators-mem m = keep-mem (generator w) (run 0 (conductor w + multiplicity w)) m .1
+
+  -- and all of them
+  pub mem-generators : (x : ℕ) → generator w x ≡ true → List·Memᴰ x (minimalGenerators w)
+  unfolding minimalGenerators
+  mem-generators x e =
+      mem-keep (generator w) (run 0 (conductor w + multiplicity w))
+      (mem-run 0 (conductor w + multiplicity w) (omega arith) (omega (arith, generator-below x e))) e
+
+  -- in rising order
+  pub generators-ordered : Ordered _<_ (minimalGenerators w)
+  unfolding minimalGenerators
+  generators-ordered = ordered-keep _<_ _ (run 0 (conductor w + multiplicity w)) (ordered-run 0 (conductor w + multiplicity w))
+
+  -- those below the conductor, and those from it on
+  pub generators-parts : minimalGenerators w ≡ keep (generator w) (run 0 (conductor w)) ++ rightGenerators w
+  unfolding minimalGenerators rightGenerators
+  generators-parts =
+      ap (keep (generator w)) (run-below (conductor w) (multiplicity w)) ∙ keep-append (generator w) (run 0 (conductor w)) (run (conductor w) (multiplicity w))
+
+  -- a generator of a word of genus at most 32 is below 128
+  pub generator-lt-128 : closed w ≡ true → genus w ≤ 32 → (x : ℕ) → generator w x ≡ true → x < 128
+  generator-lt-128 c h x e = omega (arith, generator-below x e, conductor-le-64 w fits c h, multiplicity-le-conductor w fits)
+
+  -- ---- the sums of generators
+
+  below-sum : (n x : ℕ) → x < n → setOf w x ≡ true → SumOf (minimalGenerators w) x
+  below-sum zero x h e = absurd (omega arith)
+  below-sum (suc n) zero h e = sum-zero (minimalGenerators w)
+  below-sum (suc n) (suc i) h e =
+      by-value (sumOfTwo (setOf w) (suc i))
+      (λ t.
+      let s = sum-of (setOf w) (suc i) t in
+      subst (SumOf (minimalGenerators w)) (s .sum)
+      (sum-add (minimalGenerators w) (below-sum n (s .one) (omega (arith, s .sum, s .other-pos)) (s .one-in))
+      (below-sum n (s .other) (omega (arith, s .sum, s .one-pos)) (s .other-in))))
+      (λ f. sum-member (minimalGenerators w) (mem-generators (suc i) (generator-of w (suc i) (omega arith) e f)))
+
+  -- each element is a sum of minimal generators
+  pub element-sum : (x : ℕ) → setOf w x ≡ true → SumOf (minimalGenerators w) x
+  element-sum x e = below-sum (suc x) x (omega arith) e
+
+  -- the sums of the minimal generators of a closed word are its elements
+  pub generators-span : closed w ≡ true → (x : ℕ) → spans (minimalGenerators w) x ≡ setOf w x
+  unfolding setOf
+  generators-span c x =
+      true-together (spans (minimalGenerators w) x) (setOf w x)
+      (λ e. sum-in (minimalGenerators w) (setOf w) refl (closed-iff w fits .0 c) (λ a m. generator-parts w a (generators-mem m) .1) x (spans-iff (minimalGenerators w) x .0 e))
+      (λ e. spans-iff (minimalGenerators w) x .1 (element-sum x e))
+
+  -- their greatest common divisor is 1, as it divides the conductor and the number after it
+  pub generators-gcd : gcdOf (minimalGenerators w) ≡ 1
+  generators-gcd =
+      let c : ℕ = conductor w in
+      let d : ℕ = gcdOf (minimalGenerators w) in
+      let divides : (x : ℕ) → c ≤ x → d ∣ x =
+      λ x h. divides-sum (minimalGenerators w) d (λ a m. gcd-divides (minimalGenerators w) m) x (element-sum x (element-from-conductor w fits x h)) in
+      eq-one-of-dvd-one (dvd-add-iff-right _ (divides c (le-refl c)) .1 (divides (c + 1) (omega arith)))
+
+  -- no other list generates the set with less: each whose sums are the elements holds all minimal generators
+  pub generators-least : (A : List ℕ) → ((x : ℕ) → spans A x ≡ setOf w x) → {x : ℕ} → List·Memᴰ x (minimalGenerators w) → List·Memᴰ x A
+  generators-least A same {x} m =
+      let (pos, x-in, alone) = generator-parts w x (generators-mem m) in
+      let s = sum-split A x pos (spans-iff A x .0 (same x ∙ x-in)) in
+      let in-set : (y : ℕ) → SumOf A y → setOf w y ≡ true = λ y t. sym (same y) ∙ spans-iff A y .1 t in
+      let no-rest : ¬ (0 < s .rest) =
+      λ l. not-both (sum-found (setOf w) x (s .part) (s .rest) (s .part-pos) l (s .sum) (in-set (s .part) (sum-member A (s .part-in))) (in-set (s .rest) (s .rest-sum))) alone in
+      let whole : x ≡ s .part = omega (arith, s .sum) in
+      Memᴰ·cast whole (s .part-in)
+
+-- ---- what the call answers
+
+module _ (w : ℕ) (lent : List ℕ) where
+  -- the number of generators and the list are told just of accepted words
+  pub generators-given : (l : List ℕ) (n : ℕ) → generatorsOf w lent ≡ record { answer = given n; list = l }
+      → Accepted w × (n ≡ length (minimalGenerators w)) × (l ≡ written (minimalGenerators w) lent)
+  unfolding generatorsOf askWord
+  generators-given l n e = by-questions (leb (genus w) 32) refl (closed w) refl (leb (length (minimalGenerators w)) (length lent)) e
+    where
+      by-questions : (few : Bool) → leb (genus w) 32 ≡ few → (sums : Bool) → closed w ≡ sums → (holds : Bool)
+          → ask few (unchanged lent 1) (ask sums (unchanged lent 2) (ask holds (unchanged lent 6) (filled w lent))) ≡ record { answer = given n; list = l }
+          → Accepted w × (n ≡ length (minimalGenerators w)) × (l ≡ written (minimalGenerators w) lent)
+      by-questions true p true q true e =
+          let same : given (length (minimalGenerators w)) ≡ given n = ap (λ (r : Listing). r .answer) e in
+          let count : n ≡ length (minimalGenerators w) = cc in
+          (record { sums = q; few = leb-true (genus w) 32 p }, count, sym (ap (λ (r : Listing). r .list) e))
+      by-questions true p true q false e = let z : _≡_ {A = ℕ} 0 1 = cc (ap (λ (r : Listing). r .answer) e) in absurd (omega arith)
+      by-questions true p false q holds e = let z : _≡_ {A = ℕ} 0 1 = cc (ap (λ (r : Listing). r .answer) e) in absurd (omega arith)
+      by-questions false p sums q holds e = let z : _≡_ {A = ℕ} 0 1 = cc (ap (λ (r : Listing). r .answer) e) in absurd (omega arith)
+
+  module _ (h : Accepted w) where
+    generators-asked : generatorsOf w lent ≡ ask (leb (length (minimalGenerators w)) (length lent)) (unchanged lent 6) (filled w lent)
+    unfolding generatorsOf
+    generators-asked = asked (unchanged lent) w _ h
+
+    -- a list that does not hold the generators is refused
+    pub no-room : length lent < length (minimalGenerators w) → generatorsOf w lent ≡ unchanged lent 6
+    no-room l = generators-asked ∙ simp (lt-leb (length (minimalGenerators w)) (length lent) l)
+
+    -- in one that does they are listed
+    pub room : length (minimalGenerators w) ≤ length lent → generatorsOf w lent ≡ filled w lent
+    room l = generators-asked ∙ simp (le-leb (length (minimalGenerators w)) (length lent) l)

@@ -1,0 +1,226 @@
+-- The word of given generators: which lists are refused, and that generators and words give back one another. Assumes nothing.
+use Prim.Native.Nat.{ℕ, _^_, _≤_, _<_}
+use mathlib.Core.Path.{_≡_, refl, sym, ap, ap₂, subst, _∙_, fun-ext}
+use mathlib.Core.Logic.{_≢_, _↔_}
+use mathlib.Core.Bool.{Bool, true, false}
+use mathlib.Core.List.{List, List·Memᴰ, Memᴰ·cast}
+use native.Mathlib.Omega.{arith}
+use lib.Dec.{eqb, ltb}
+use lib.ListN.{length, take}
+use borrow.Author.Tests.{ltb-true, ltb-false, lt-ltb, leb-true, le-leb, eqb-true, eqb-false, eq-eqb, ne-eqb}
+use Rattle.words.specs.Lists.{every}
+use Rattle.words.specs.Sets.{Set, sumOfTwo, ClosedUnderAddition, GapsOf}
+use Rattle.words.specs.Words.{setOf, gaps, genus, wordOf}
+use Rattle.words.specs.Answers.{Answer, refused, given, ask}
+use Rattle.words.proofs.Booleans.{not-both, is-false}
+use Rattle.words.proofs.Lists.{every-mem, mem-every, every-false}
+use Rattle.words.proofs.Sets.{same-of-gaps}
+use Rattle.words.proofs.Words.{GapList, word-gaps, word-lt, gaps-of, same-set}
+use Rattle.words.proofs.Closure.{closed-iff}
+use Rattle.words.proofs.Answers.{Accepted}
+use Rattle.generators.specs.Divisors.{gcdOf}
+use Rattle.generators.specs.Sums.{spans, gapsTo, AtMostGaps}
+use Rattle.generators.specs.Generators.{minimalGenerators, generatorsOf, filled, fewGaps, wordFromOf}
+use Rattle.generators.proofs.Sums.{sum-zero, spans-iff, spans-closed}
+use Rattle.generators.proofs.Few.{gaps-to-mem, mem-gaps-to, gaps-to-ordered, gap-positive, gap-below-64, gaps-to-le, few-iff}
+use Rattle.generators.proofs.MinimalGenerators.{generator-parts, generator-of, generators-mem, mem-generators, generators-span, generators-gcd, generators-least, generators-given, room}
+use Rattle.generators.proofs.Writing.{written-front}
+
+-- ---- the word of a set
+
+module _ (S : Set) (zero-in : S 0 ≡ true) (within : (x : ℕ) → S x ≡ false → x ≤ 64) where
+  gap-list : GapList 1 (gapsTo S 64)
+  gap-list = record { ordered = gaps-to-ordered S 64; within = λ x m. let (a, b, e) = gaps-to-mem S 64 m in (a, omega arith) }
+
+  -- where all gaps of S are at most 64, the word of those up to 64 has the set S
+  pub word-of-set : (wordOf (gapsTo S 64) < 2 ^ 64) × ((x : ℕ) → setOf (wordOf (gapsTo S 64)) x ≡ S x)
+  word-of-set = (
+    word-lt (gapsTo S 64) gap-list,
+    same-of-gaps (setOf (wordOf (gapsTo S 64))) S (gapsTo S 64) (word-gaps (gapsTo S 64) gap-list) (record {
+      rising = gaps-to-ordered S 64;
+      missed = λ x m. gaps-to-mem S 64 m .2;
+      all = λ x e. mem-gaps-to S 64 x (gap-positive S zero-in x e) (within x e) e;
+    }),
+  )
+
+-- ---- the questions
+
+-- which tests fail for which answer
+module _ (v : ℕ) where
+  -- the answer by the three tests
+  abbrev answer : Bool → Bool → Bool → Answer ℕ
+  answer p q r = ask p (refused 7) (ask q (refused 8) (ask r (refused 9) (given v)))
+
+  -- the number of the answer, 0 for a word
+  numbered : Answer ℕ → ℕ
+  numbered (refused n) = n
+  numbered (given w) = 0
+
+  by-zero : (p q r : Bool) → answer p q r ≡ refused 7 → p ≡ false
+  unfolding numbered
+  by-zero false q r e = refl
+  by-zero true false r e = absurd (omega (arith, ap numbered e))
+  by-zero true true false e = absurd (omega (arith, ap numbered e))
+  by-zero true true true e = absurd (omega (arith, ap numbered e))
+
+  by-divisor : (p q r : Bool) → answer p q r ≡ refused 8 → (p ≡ true) × (q ≡ false)
+  unfolding numbered
+  by-divisor false q r e = absurd (omega (arith, ap numbered e))
+  by-divisor true false r e = (refl, refl)
+  by-divisor true true false e = absurd (omega (arith, ap numbered e))
+  by-divisor true true true e = absurd (omega (arith, ap numbered e))
+
+  by-gaps : (p q r : Bool) → answer p q r ≡ refused 9 → (p ≡ true) × (q ≡ true) × (r ≡ false)
+  unfolding numbered
+  by-gaps false q r e = absurd (omega (arith, ap numbered e))
+  by-gaps true false r e = absurd (omega (arith, ap numbered e))
+  by-gaps true true false e = (refl, refl, refl)
+  by-gaps true true true e = absurd (omega (arith, ap numbered e))
+
+  by-word : (w : ℕ) (p q r : Bool) → answer p q r ≡ given w → (p ≡ true) × (q ≡ true) × (r ≡ true) × (v ≡ w)
+  unfolding numbered
+  by-word w false q r e = absurd (omega (arith, ap numbered e))
+  by-word w true false r e = absurd (omega (arith, ap numbered e))
+  by-word w true true false e = absurd (omega (arith, ap numbered e))
+  by-word w true true true e = (refl, refl, refl, cc)
+
+module _ (A : List ℕ) where
+  -- all members are positive
+  abbrev pub Positive : Type 0
+  Positive = (a : ℕ) → List·Memᴰ a A → 0 < a
+
+  positive-iff : (every (ltb 0) A ≡ true) ↔ Positive
+  positive-iff = (λ e a m. ltb-true 0 a (every-mem (ltb 0) A e m), λ h. mem-every (ltb 0) A (λ a m. lt-ltb 0 a (h a m)))
+
+  spans-zero : spans A 0 ≡ true
+  spans-zero = spans-iff A 0 .1 (sum-zero A)
+
+  -- the test of the number of gaps decides whether there are at most 32, of all numbers
+  pub few-gaps-iff : (fewGaps A ≡ true) ↔ AtMostGaps 32 (spans A)
+  unfolding fewGaps
+  few-gaps-iff =
+      let r = few-iff (spans A) spans-zero (spans-closed A) in
+      (λ e. r .0 (leb-true _ 32 e), λ h. le-leb _ 32 (r .1 h))
+
+  -- the word of the sums, where all their gaps are at most 64
+  abbrev word : ℕ
+  word = wordOf (gapsTo (spans A) 64)
+
+  -- the first two tests
+  abbrev positives : Bool
+  positives = every (ltb 0) A
+
+  abbrev coprime : Bool
+  coprime = eqb (gcdOf A) 1
+
+  -- refused 7 where a member is 0
+  pub refused-zero : (wordFromOf A ≡ refused 7) ↔ List·Memᴰ 0 A
+  unfolding wordFromOf
+  refused-zero = (
+    λ e.
+        let (a, m, f) = every-false (ltb 0) A (by-zero word positives coprime (fewGaps A) e) in
+        let none : 0 ≡ a = omega (arith, ltb-false 0 a f) in
+        Memᴰ·cast none m,
+    λ m. rw (is-false (every (ltb 0) A) (λ e. omega (arith, positive-iff .0 e 0 m))),
+  )
+
+  -- else 8 where the greatest common divisor is not 1
+  pub refused-divisor : (wordFromOf A ≡ refused 8) ↔ (Positive × (gcdOf A ≢ 1))
+  unfolding wordFromOf
+  refused-divisor = (
+    λ e. let (p, q) = by-divisor word positives coprime (fewGaps A) e in (positive-iff .0 p, eqb-false (gcdOf A) 1 q),
+    λ (h, n). rw (positive-iff .1 h, ne-eqb (gcdOf A) 1 n),
+  )
+
+  -- else 9 where the sums leave more than 32 gaps
+  pub refused-gaps : (wordFromOf A ≡ refused 9) ↔ (Positive × (gcdOf A ≡ 1) × ¬ AtMostGaps 32 (spans A))
+  unfolding wordFromOf
+  refused-gaps = (
+    λ e. let (p, q, r) = by-gaps word positives coprime (fewGaps A) e in (positive-iff .0 p, eqb-true (gcdOf A) 1 q, λ g. not-both (few-gaps-iff .1 g) r),
+    λ (h, g, n). rw (positive-iff .1 h, eq-eqb (gcdOf A) 1 g, is-false (fewGaps A) (λ e. n (few-gaps-iff .0 e))),
+  )
+
+  -- w is the word of the sums
+  pub record WordOfSums (w : ℕ) : Type 0 where
+    pub positive : Positive
+    pub coprime : gcdOf A ≡ 1
+    pub few : AtMostGaps 32 (spans A)
+    pub fits : w < 2 ^ 64
+    pub same : (x : ℕ) → setOf w x ≡ spans A x
+
+  few-word : AtMostGaps 32 (spans A) → (wordOf (gapsTo (spans A) 64) < 2 ^ 64) × ((x : ℕ) → setOf (wordOf (gapsTo (spans A) 64)) x ≡ spans A x)
+  few-word few =
+      let short = few-iff (spans A) spans-zero (spans-closed A) .1 few in
+      word-of-set (spans A) spans-zero (λ x e. omega (arith, gap-below-64 (spans A) spans-zero (spans-closed A) short x e))
+
+  -- else the word whose set is that of the sums
+  pub answered-word : (w : ℕ) → (wordFromOf A ≡ given w) ↔ WordOfSums w
+  unfolding wordFromOf
+  answered-word w = (
+    λ e.
+        let (p, q, r, v) = by-word word w positives coprime (fewGaps A) e in
+        let few = few-gaps-iff .0 r in
+        let (fits, same) = few-word few in
+        record { positive = positive-iff .0 p; coprime = eqb-true (gcdOf A) 1 q; few = few; fits = subst (λ (u : ℕ). u < 2 ^ 64) v fits; same = λ x. ap (λ (u : ℕ). setOf u x) (sym v) ∙ same x },
+    λ s.
+        let (fits, same) = few-word (s .few) in
+        rw (positive-iff .1 (s .positive), eq-eqb (gcdOf A) 1 (s .coprime), few-gaps-iff .1 (s .few))
+        (ap given (same-set (wordOf (gapsTo (spans A) 64)) w fits (s .fits) (λ x. same x ∙ sym (s .same x)))),
+  )
+
+-- ---- there and back
+
+-- the minimal generators of an accepted word give the word
+pub generators-give-word : (w : ℕ) → w < 2 ^ 64 → Accepted w → wordFromOf (minimalGenerators w) ≡ given w
+unfolding genus
+generators-give-word w fits h =
+    let same : (x : ℕ) → setOf w x ≡ spans (minimalGenerators w) x = λ x. sym (generators-span w fits (h .sums) x) in
+    let g = gaps-of w fits in
+    answered-word (minimalGenerators w) w .1 (record {
+      positive = λ a m. generator-parts w a (generators-mem w fits m) .0;
+      coprime = generators-gcd w fits;
+      few = (gaps w, g .rising, h .few, λ x e. g .all x (same x ∙ e));
+      fits = fits;
+      same = same;
+    })
+
+-- what the call writes of an accepted word, given back, gives the word
+pub listed-give-word : (w : ℕ) → w < 2 ^ 64 → (lent l : List ℕ) (n : ℕ) → generatorsOf w lent ≡ record { answer = given n; list = l } → wordFromOf (take n l) ≡ given w
+listed-give-word w fits lent l n e =
+    let (h, count, list) = generators-given w lent l n e in
+    ap₂ (λ (k : ℕ) (m : List ℕ). wordFromOf (take k m)) count list ∙ ap wordFromOf (written-front (minimalGenerators w) lent)
+    ∙ generators-give-word w fits h
+
+module _ (A : List ℕ) (w : ℕ) (made : wordFromOf A ≡ given w) where
+  sums : WordOfSums A w
+  sums = answered-word A w .0 made
+
+  -- the word made of given generators is accepted
+  pub made-accepted : (w < 2 ^ 64) × Accepted w
+  unfolding genus gaps gapsTo setOf
+  made-accepted =
+      let same : spans A ≡ setOf w = sym (fun-ext (sums .same)) in (
+        sums .fits,
+        record {
+          sums = closed-iff w (sums .fits) .1 (subst ClosedUnderAddition same (spans-closed A));
+          few = gaps-to-le (setOf w) refl 32 64 (subst (AtMostGaps 32) same (sums .few));
+        },
+      )
+
+  -- its gaps are those of the sums
+  pub made-gaps : GapsOf (spans A) (gaps w)
+  made-gaps = subst (λ (S : Set). GapsOf S (gaps w)) (fun-ext (sums .same)) (gaps-of w (sums .fits))
+
+  -- its minimal generators are the positive sums that are no sum of two positive sums
+  pub made-generators : (x : ℕ) → List·Memᴰ x (minimalGenerators w) ↔ ((0 < x) × (spans A x ≡ true) × (sumOfTwo (spans A) x ≡ false))
+  made-generators x =
+      subst (λ (S : Set). List·Memᴰ x (minimalGenerators w) ↔ ((0 < x) × (S x ≡ true) × (sumOfTwo S x ≡ false))) (fun-ext (sums .same))
+      (λ m. generator-parts w x (generators-mem w (sums .fits) m), λ (pos, e, alone). mem-generators w (sums .fits) x (generator-of w x pos e alone))
+
+  -- each of them is among the given ones
+  pub made-among : {x : ℕ} → List·Memᴰ x (minimalGenerators w) → List·Memᴰ x A
+  made-among m = generators-least w (sums .fits) A (λ x. sym (sums .same x)) m
+
+  -- the call lists them, in a list that holds them
+  pub made-listed : (lent : List ℕ) → length (minimalGenerators w) ≤ length lent → generatorsOf w lent ≡ filled w lent
+  made-listed lent h = room w lent (made-accepted .1) h
