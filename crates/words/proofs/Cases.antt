@@ -13,7 +13,8 @@ use Rattle.words.specs.Elements.{multiplicity, generator, rightGenerator
 use Rattle.words.specs.GenusList.{genusList}
 use Rattle.words.specs.Answers.{refused, given, askWord, reportOf, lookOf}
 use Rattle.words.proofs.Lists.{map-run, getD-map-run}
-use Rattle.words.proofs.Leaves.{leaves, genus-list-leaves}
+use Rattle.words.specs.Tree.{leaves}
+use Rattle.words.proofs.Leaves.{genus-list-leaves}
 
 -- the genus lists of genus 0 to 4
 abbrev pub knownLists : List (List ℕ)

@@ -257,6 +257,11 @@ module _ {A B : Type 0} where
   joined-append f [] l = refl
   joined-append f (x ∷ k) l = ap (λ (t : List B). f x ++ t) (joined-append f k l) ∙ sym (append-assoc (f x) (joined f k) (joined f l))
 
+  pub joined-map : {C : Type 0} (f : A → List B) (h : C → A) (l : List C) → joined f (map h l) ≡ joined (λ x. f (h x)) l
+  unfolding joined
+  joined-map f h [] = refl
+  joined-map f h (x ∷ l) = ap (λ (t : List B). f (h x) ++ t) (joined-map f h l)
+
   pub length-joined : (f : A → List B) (l : List A) → length (joined f l) ≡ sumOver (λ x. length (f x)) l
   unfolding joined sumOver
   length-joined f [] = refl
@@ -443,6 +448,30 @@ begins-iff k l = (
   λ e. let (r, s) = begins-rest k l e in ap (take (length k)) (sym s) ∙ take-append-seam k r,
   λ e. ap (begins k) (sym (take-append-drop (length k) l) ∙ ap (λ (m : List ℕ). m ++ drop (length k) l) e) ∙ begins-append k (drop (length k) l),
 )
+
+-- ---- a list from an element on
+
+module _ (x : ℕ) where
+  -- where x is not in the first part, from x on there is what there is in the second
+  pub on-from-later : (k l : List ℕ) → (List·Memᴰ x k → ⊥) → onFrom x (k ++ l) ≡ onFrom x l
+  unfolding onFrom
+  on-from-later [] l h = refl
+  on-from-later (y ∷ k) l h = rw (ne-eqb x y (λ e. h (List·Memᴰ·head e))) (on-from-later k l (λ m. h (List·Memᴰ·tail m)))
+
+  -- where it is, the second part follows
+  pub on-from-within : (k l : List ℕ) → List·Memᴰ x k → onFrom x (k ++ l) ≡ onFrom x k ++ l
+  unfolding onFrom
+  on-from-within [] l m = absurd (List·Memᴰ·not-nil m)
+  on-from-within (y ∷ k) l m =
+      by-value (eqb x y) (λ e. rw e)
+      (λ e. rw e (on-from-within k l (⊎-elim (λ q. absurd (not-both (eq-eqb x y q) e)) (λ n. n) (List·Memᴰ·cases-cons m))))
+
+  -- x is in the list of d and in none before it: from x on there are the rest of that list and the lists after it
+  pub on-from-joined : (f : ℕ → List ℕ) (d : ℕ) (k l : List ℕ) → (List·Memᴰ x (joined f k) → ⊥) → List·Memᴰ x (f d)
+      → onFrom x (joined f (k ++ d ∷ l)) ≡ onFrom x (f d) ++ joined f l
+  unfolding joined
+  on-from-joined f d k l before m =
+      ap (onFrom x) (joined-append f k (d ∷ l)) ∙ on-from-later (joined f k) (f d ++ joined f l) before ∙ on-from-within (f d) (joined f l) m
 
 -- ---- sums
 

@@ -109,22 +109,22 @@ pub enum LookAnswer {
     Given(Report),
 }
 
-// The number of gaps: the standing bits.
-fn genus_of(word: u64) -> u64
+// The number of gaps of any word: the standing bits.
+pub fn genus_of(word: u64) -> u64
     ensures { λ r. ⌜ r ≡ genus word ⌝ }
 {
     u64::count_ones(word) as u64
 }
 
-// The least positive element: one more than the place of the lowest clear bit.
-fn multiplicity_of(word: u64) -> u64
+// The least positive element of any word: one more than the place of the lowest clear bit.
+pub fn multiplicity_of(word: u64) -> u64
     ensures { λ r. ⌜ r ≡ multiplicity word ⌝ }
 {
     u64::trailing_zeros(!word) as u64 + 1
 }
 
-// The largest gap plus 1: two more than the place of the highest standing bit.
-fn conductor_of(word: u64) -> u64
+// The largest gap plus 1 of any word, 1 where there is none: two more than the place of the highest standing bit.
+pub fn conductor_of(word: u64) -> u64
     ensures { λ r. ⌜ r ≡ conductor word ⌝ }
 {
     65 - u64::leading_zeros(word) as u64

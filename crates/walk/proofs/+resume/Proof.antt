@@ -1,0 +1,121 @@
+-- The proof of `resume`, which calls itself: the levels below a node are the measure. Assumes nothing.
+use Prim.Native.Nat.{ℕ, _+_, _*_, _/_, _%_, _^_, _<_}
+use mathlib.Core.Path.{_≡_, ap, _∙_}
+use native.Mathlib.Omega.{arith}
+use native.Mathlib.Nat.{mod-eq-of-lt, lt-of-le-of-lt, div-mul-le-self}
+use borrow.Fn.Kinds.{In}
+use borrow.Fn.PlainCycle.{Measures, is, falls, and}
+use Rattle.words.proofs.StandingBits.{above}
+use Rattle.words.specs.Tree.{leaves}
+use Rattle.tables.specs.Nodes.{firstRow}
+use Rattle.walk.specs.Lending.{putAll}
+use Rattle.walk.proofs.Branches.{on-from-own}
+use Rattle.walk.proofs.Nodes.{Below, next-child}
+use Rattle.walk.proofs.Lending.{put-append}
+use Rattle.walk.proofs.resume.Reads as resume
+use Rattle.walk.proofs.resume.Kinds as resume-kinds
+use Rattle.walk.proofs.+resume.Lts-resume as resume-lts
+use Rattle.tables.proofs.Node.child.Reads as child-reads
+use Rattle.tables.proofs.Node.first_row.Reads as first-row-reads
+use Rattle.tables.proofs.Node.next_offset.Reads as next-offset-reads
+use Rattle.walk.proofs.emit_from.Reads as emit-from-reads
+use Rattle.walk.proofs.put.Reads as put-reads
+use Rattle.walk.proofs.+resume.{statement}
+use Rattle.walk.proofs.+resume.Tie.{close}
+
+abbrev μ : Measures 1 resume-kinds.ps ℕ
+μ κs a = a .1 .1 .0
+
+module _ (t : ℕ) where
+  -- what the function is given at the measure t, and what a call of it asks below t
+  abbrev at : In 1 resume-kinds.ps
+  at = and 1 resume-kinds.ps (is 1 resume-kinds.ps μ t) resume.Pre
+
+  abbrev below : In 1 resume-kinds.ps
+  below = and 1 resume-kinds.ps (falls 1 resume-kinds.ps _<_ μ t) resume.Pre
+
+  abbrev claims : resume-lts.Claims
+  claims = (
+    put-reads.Asked,
+    put-reads.Learnt,
+    next-offset-reads.Asked,
+    next-offset-reads.Learnt,
+    child-reads.Asked,
+    child-reads.Learnt,
+    below,
+    resume.Post,
+    first-row-reads.Asked,
+    first-row-reads.Learnt,
+    emit-from-reads.Asked,
+    emit-from-reads.Learnt,
+  )
+
+  -- the word is below the child at the next offset
+  found : (c : resume-lts.After-next-offset claims at resume.Post) →
+      let a = c .before .before .before .args in Below (a .left) (a .n) (a .word) (c .next-offset .result .0)
+  found c =
+      let start = c .before .before .before in
+      next-child _ _ (c .before .if1 .left) (start .pre .1 .0) _ (start .pre .1 .1) (c .next-offset .ensures)
+
+  -- the bits of the first row above that offset, as they are cut out
+  cut : (c : resume-lts.After-first-row claims at resume.Post) →
+      let at-offset = c .before .before .before .before .before .before .before in
+      let d : ℕ = at-offset .next-offset .result .0 in
+      c .first-row .result / 2 ^ (d + 1) * 2 ^ (d + 1) % 2 ^ 64 ≡ above (firstRow (at-offset .before .before .before .args .n)) d
+  cut c =
+      let at-offset = c .before .before .before .before .before .before .before in
+      let d : ℕ = at-offset .next-offset .result .0 in
+      mod-eq-of-lt (lt-of-le-of-lt (div-mul-le-self (c .first-row .result) (2 ^ (d + 1))) (c .first-row .ok))
+      ∙ ap (λ (row : ℕ). above row d) (c .first-row .ensures)
+
+  resume-requires : resume-lts.Need-resume-requires claims at resume.Post
+  resume-requires c κs =
+      let b = found (c .before .before) in
+      (omega arith, rw (c .before .child .ensures) (b .child, b .leaf))
+
+  add-later : resume-lts.Need-add-later claims at resume.Post
+  add-later c = omega (arith, found (c .before .before .before .before .before .before) .near)
+
+  shr-rest : resume-lts.Need-shr-rest claims at resume.Post
+  shr-rest c = omega (arith, found (c .before .before .before .before .before .before .before) .near)
+
+  shl-rest : resume-lts.Need-shl-rest claims at resume.Post
+  shl-rest c = omega (arith, found (c .before .before .before .before .before .before .before) .near)
+
+  emit-from-requires : resume-lts.Need-emit-from-requires claims at resume.Post
+  emit-from-requires c κs =
+      let b = found (c .before .before .before .before .before .before .before .before) in
+      (b .right, rw (cut (c .before)) (b .offsets))
+
+  returns : resume-lts.Need-returns claims at resume.Post
+  unfolding putAll
+  returns c =
+      let start = c .before .before .before .before .before .before in
+      let none = c .before .before .before .before .if1 .taken in
+      rw (none, on-from-own _ _ (rw none at (start .pre .1 .1))) (c .before .before .put .ensures)
+
+  returns-2 : resume-lts.Need-returns-2 claims at resume.Post
+  returns-2 c =
+      let at-resume = c .before .before .before .before .before .before .before .before in
+      let b = found (at-resume .before .before .before) in
+      rw (b .parts, put-append, ← at-resume .before .before .child .ensures, ← at-resume .resume .ensures, ← cut (c .before .before .before .before))
+      (c .before .before .emit-from .ensures)
+
+pub +resume-spec : {M : Type 1} → statement M
++resume-spec =
+    close μ λ t. resume-lts.spec (claims t) (at t) resume.Post
+    (λ c κs. tt)
+    (λ c κs. tt)
+    (λ c κs. tt)
+    (λ c. omega arith)
+    (resume-requires t)
+    (add-later t)
+    (λ c κs. tt)
+    (shr-rest t)
+    (shl-rest t)
+    (λ c. omega arith)
+    (emit-from-requires t)
+    (λ c. omega arith)
+    (returns t)
+    (λ c. omega arith)
+    (returns-2 t)

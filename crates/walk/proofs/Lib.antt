@@ -1,0 +1,11 @@
+pub mod Walks
+pub mod Demand3
+pub mod Useful
+pub mod Cases
+pub mod Branches
+pub mod Nodes
+pub mod Lending
+pub mod Measure
+pub mod Batches
+pub mod Counts
+pub mod Values

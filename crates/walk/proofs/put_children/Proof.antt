@@ -1,0 +1,115 @@
+-- `walk::put_children` meets its contract. What is left to put makes, with what was put, all that there is to put. Assumes nothing.
+use Prim.Native.Nat.{ℕ, _+_, _*_, _-_, _%_, _^_, _<_}
+use mathlib.Core.Path.{_≡_, refl, sym, ap, _∙_}
+use mathlib.Core.List.{List}
+use native.Mathlib.Omega.{arith}
+use lib.ListN.{length}
+use borrow.Author.Needs.{needs}
+use Rattle.words.specs.Words.{conductor, childWord}
+use Rattle.words.proofs.Bits.{one-shl}
+use Rattle.words.proofs.Elements.{conductor-pos}
+use Rattle.words.proofs.Children.{Child}
+use Rattle.words.specs.Tree.{leaves}
+use Rattle.walk.specs.Branches.{branches, Offsets, TakenOff}
+use Rattle.walk.specs.Lending.{Lent, putOne, putAll}
+use Rattle.walk.proofs.Branches.{branches-none, branches-first, offset-first, offsets-rest, child-of}
+use Rattle.walk.proofs.Nodes.{right-conductor, levels}
+use Rattle.walk.proofs.put_children.Statement.{statement}
+use Rattle.walk.proofs.put_children.Tie as tie
+use Rattle.walk.proofs.put_children.Reads as reads
+use Rattle.walk.proofs.put_children.Lts as lts
+use Rattle.walk.proofs.lowest_of.Reads as lowest-of-reads
+use Rattle.walk.proofs.put.Reads as put-reads
+
+abbrev Inv-loop : tie.InvT-loop
+Inv-loop rest out₀ w c bits₀ t₀ out bits t =
+    Offsets w bits × (length out ≡ length out₀) × (putAll (branches 0 w bits) (out, t) ≡ putAll (branches 0 w bits₀) (out₀, t₀))
+
+abbrev μ-loop : tie.MeasureT-loop
+μ-loop rest out₀ w c bits₀ t₀ out bits t = bits
+
+-- the child at the lowest offset
+child : (c : tie.After-lowest-of Inv-loop μ-loop) →
+    let w : ℕ = c .before .before .before .before .args .n .word in Child w (conductor w + c .lowest-of .result .at)
+child c =
+    let at-loop = c .before .before in
+    let start = at-loop .before .before in
+    child-of 0 _ (levels 0 _ (start .pre .0)) (offset-first 0 _ (c .lowest-of .ensures) (at-loop .loop .inv .0))
+
+-- the conductor that the node carries
+same : (c : tie.After-lowest-of Inv-loop μ-loop) →
+    let n = c .before .before .before .before .args .n in n .conductor ≡ conductor (n .word)
+same c = right-conductor 1 _ (c .before .before .before .before .pre .0)
+
+-- its word, as it is put together
+word : (c : tie.After-lowest-of Inv-loop μ-loop) →
+    let n = c .before .before .before .before .args .n in
+    n .word + 1 * 2 ^ (n .conductor + c .lowest-of .result .at - 1) % 2 ^ 64 ≡ childWord (n .word) (conductor (n .word) + c .lowest-of .result .at)
+unfolding childWord
+word c =
+    let n = c .before .before .before .before .args .n in
+    rw (same c) (ap (λ (k : ℕ). n .word + k) (one-shl _ (omega (arith, child c .low))))
+
+-- to put the child, and then those at the other offsets, is to put all
+put-first : (w : ℕ) {bits at rest : ℕ} → TakenOff bits at rest → (t : Lent)
+    → putAll (branches 0 w bits) t ≡ putAll (branches 0 w rest) (putOne (childWord w (conductor w + at)) t)
+unfolding leaves putAll
+put-first w low t = ap (λ (l : List ℕ). putAll l t) (branches-first 0 w low)
+
+loop-holds : tie.Need-loop-holds Inv-loop μ-loop
+loop-holds c = (c .before .pre .1, refl, refl)
+
+lowest-of-requires : tie.Need-lowest-of-requires Inv-loop μ-loop
+lowest-of-requires c κs = omega arith
+
+add-put : tie.Need-add-put Inv-loop μ-loop
+add-put c = omega (arith, child (c .before) .low, same (c .before))
+
+sub-put : tie.Need-sub-put Inv-loop μ-loop
+sub-put c = omega (arith, conductor-pos (c .before .before .before .before .before .args .n .word), same (c .before))
+
+shl-put : tie.Need-shl-put Inv-loop μ-loop
+shl-put c = omega (arith, child (c .before) .low, same (c .before))
+
+add-put-2 : tie.Need-add-put-2 Inv-loop μ-loop
+add-put-2 c = rw (word (c .before)) record { fits = child (c .before) .fits }
+
+put-requires : tie.Need-put-requires Inv-loop μ-loop
+put-requires c κs = search needs
+
+loop-less : tie.Need-loop-less Inv-loop μ-loop
+loop-less c = omega arith
+
+loop-again : tie.Need-loop-again Inv-loop μ-loop
+loop-again c =
+    let low = c .before .before .before .before .before in
+    let at = low .before .before .loop in (
+      offsets-rest 0 _ (low .lowest-of .ensures) (at .inv .0),
+      c .before .before .put .kept .1 .1 .0 ∙ at .inv .1,
+      ap (putAll _) (c .before .before .put .ensures) ∙ rw (word low) (sym (put-first _ (low .lowest-of .ensures) _)) ∙ at .inv .2,
+    )
+
+same-length : tie.Need-same-length Inv-loop μ-loop
+same-length c = c .before .loop .inv .1
+
+returns : tie.Need-returns Inv-loop μ-loop
+unfolding putAll
+returns c = rw (c .loop-test .left, branches-none) at (c .before .loop .inv .2)
+
+pub put-children-spec : {M : Type 1} → statement M
+put-children-spec =
+    tie.close
+    (tie.spec
+    Inv-loop
+    μ-loop
+    loop-holds
+    lowest-of-requires
+    add-put
+    sub-put
+    shl-put
+    add-put-2
+    put-requires
+    loop-less
+    loop-again
+    same-length
+    returns)

@@ -1,0 +1,324 @@
+// The walk over the numerical semigroups of a genus, in list order, and their counts.
+ghost use Prim.Native.Nat.{_+_, _<_};
+ghost use mathlib.Core.Path.{_≡_};
+ghost use mathlib.Core.List.{List·Memᴰ};
+ghost use lib.ListN.{length};
+ghost use Rattle.words.specs.Lists.{onFrom};
+ghost use Rattle.words.specs.Answers.{answered};
+ghost use Rattle.words.specs.Tree.{leaves};
+ghost use Rattle.walk.specs.Answers.{begun};
+ghost use Rattle.walk.specs.Walks.{inOrder, ended, freshOf, startOf, batchOf, countOf};
+ghost use Rattle.walk.specs.Branches.{branches, Offsets, Right, TakenOff};
+ghost use Rattle.walk.specs.Lending.{putOne, putAll};
+use tables::Node;
+use tables::NodeAnswer;
+use words::LookAnswer;
+use words::NumberAnswer;
+use words::Offset;
+use words::Refusal;
+
+// A genus, the next word and a finished mark; when finished, the word is 0.
+pub struct Walk {
+    pub genus: u64,
+    pub word: u64,
+    pub finished: bool,
+}
+
+// The answer of the fresh and the start call.
+pub enum WalkAnswer {
+    Refused(Refusal),
+    Given(Walk),
+}
+
+// What a batch reports: the number of words written, and whether none are left.
+pub struct Written {
+    pub count: usize,
+    pub finished: bool,
+}
+
+// The answer of a batch.
+pub enum BatchAnswer {
+    Refused(Refusal),
+    Given(Written),
+}
+
+// What a batch by value gives back: the walk afterwards and the answer.
+pub struct Moved {
+    pub walk: Walk,
+    pub answer: BatchAnswer,
+}
+
+// The position of the lowest standing bit of a number, and the number without it.
+struct Lowest {
+    at: u64,
+    rest: u64,
+}
+
+fn lowest_of(bits: u64) -> Lowest
+    requires { ⌜ 0 < bits ⌝ }
+    ensures { λ r. ⌜ TakenOff bits (r .at) (r .rest) ⌝ }
+{
+    let at = u64::trailing_zeros(bits) as u64;
+    Lowest {
+        at,
+        rest: bits - (1 << at),
+    }
+}
+
+// How many words there are `left` levels below a node.
+fn count_node(n: Node, left: u64) -> u64
+    requires { ⌜ Right left n ⌝ }
+    ensures { λ r. ⌜ r ≡ length (leaves left (n .word)) ⌝ }
+{
+    if left == 0 {
+        return 1;
+    }
+    sum_from(n, n.first_row(), left - 1)
+}
+
+// How many there are `left` levels below those children of a node whose offsets are the bits of `rest`.
+fn sum_from(n: Node, rest: u64, left: u64) -> u64
+    requires { ⌜ Right (left + 1) n ⌝ }
+    requires { ⌜ Offsets (n .word) rest ⌝ }
+    ensures { λ r. ⌜ r ≡ length (branches left (n .word) rest) ⌝ }
+{
+    if left == 0 {
+        return u64::count_ones(rest) as u64;
+    }
+    if rest == 0 {
+        return 0;
+    }
+    let d = lowest_of(rest);
+    count_node(n.child(Offset(d.at)), left) + sum_from(n, d.rest, left)
+}
+
+// What was done with a lent list: how many words were written, and whether one found no room, which is then the next.
+struct Emitted {
+    written: usize,
+    more: bool,
+    next: u64,
+}
+
+// Writes one word after those that were written, unless an earlier one found no room.
+fn put(word: u64, s: Emitted, out: &mut [u64]) -> Emitted
+    ensures { λ r. ⌜ (now (out .exit), r) ≡ putOne word (now (out .entry), s) ⌝ }
+{
+    if s.more {
+        return s;
+    }
+    let at = s.written;
+    if at < out.len() {
+        out[at] = word;
+        return Emitted {
+            written: at + 1,
+            more: false,
+            next: 0,
+        };
+    }
+    Emitted {
+        written: at,
+        more: true,
+        next: word,
+    }
+}
+
+// Writes the children of a node at the offsets that are the bits of `rest`: the node's word with one bit more.
+fn put_children(n: Node, rest: u64, s: Emitted, out: &mut [u64]) -> Emitted
+    requires { ⌜ Right 1 n ⌝ }
+    requires { ⌜ Offsets (n .word) rest ⌝ }
+    ensures { λ r. ⌜ (now (out .exit), r) ≡ putAll (branches 0 (n .word) rest) (now (out .entry), s) ⌝ }
+{
+    let w = n.word;
+    let c = n.conductor;
+    let mut bits = rest;
+    let mut t = s;
+    while bits != 0 {
+        let d = lowest_of(bits);
+        t = put(w + (1 << (c + d.at - 1)), t, out);
+        bits = d.rest;
+    }
+    t
+}
+
+// Writes the words `left` levels below a node.
+fn emit(n: Node, left: u64, s: Emitted, out: &mut [u64]) -> Emitted
+    requires { ⌜ Right left n ⌝ }
+    ensures { λ r. ⌜ (now (out .exit), r) ≡ putAll (leaves left (n .word)) (now (out .entry), s) ⌝ }
+{
+    if left == 0 {
+        put(n.word, s, out)
+    } else {
+        emit_from(n, n.first_row(), left - 1, s, out)
+    }
+}
+
+// Writes those `left` levels below the children of a node whose offsets are the bits of `rest`.
+fn emit_from(n: Node, rest: u64, left: u64, s: Emitted, out: &mut [u64]) -> Emitted
+    requires { ⌜ Right (left + 1) n ⌝ }
+    requires { ⌜ Offsets (n .word) rest ⌝ }
+    ensures { λ r. ⌜ (now (out .exit), r) ≡ putAll (branches left (n .word) rest) (now (out .entry), s) ⌝ }
+{
+    if left == 0 {
+        return put_children(n, rest, s, out);
+    }
+    if rest == 0 {
+        return s;
+    }
+    if s.more {
+        return s;
+    }
+    let d = lowest_of(rest);
+    let t = emit(n.child(Offset(d.at)), left, s, out);
+    emit_from(n, d.rest, left, t, out)
+}
+
+// Writes the words `left` levels below a node from `word` on, which is one of them: first those below the child that has it.
+fn resume(n: Node, word: u64, left: u64, s: Emitted, out: &mut [u64]) -> Emitted
+    requires { ⌜ Right left n ⌝ }
+    requires { ⌜ List·Memᴰ word (leaves left (n .word)) ⌝ }
+    ensures { λ r. ⌜ (now (out .exit), r) ≡ putAll (onFrom word (leaves left (n .word))) (now (out .entry), s) ⌝ }
+{
+    if left == 0 {
+        put(word, s, out)
+    } else {
+        let d = n.next_offset(word);
+        let t = resume(n.child(d), word, left - 1, s, out);
+        let later = d.0 + 1;
+        let rest = (n.first_row() >> later) << later;
+        emit_from(n, rest, left - 1, t, out)
+    }
+}
+
+// Question 4: is the walk finished with word 0, or unfinished on an accepted word of its genus?
+fn in_order(walk: Walk) -> bool
+    ensures { λ r. ⌜ r ≡ inOrder walk ⌝ }
+{
+    let word = walk.word;
+    if walk.finished {
+        return word == 0;
+    }
+    let answer = words::look(word);
+    match answer {
+        LookAnswer::Refused(_) => false,
+        LookAnswer::Given(report) => report.genus == walk.genus,
+    }
+}
+
+// A walk that stands on the first semigroup of a genus, whose gaps are the numbers from 1 on: refused above genus 32.
+pub fn fresh(genus: u64) -> WalkAnswer
+    ensures { λ r. ⌜ begun r ≡ freshOf genus ⌝ }
+{
+    if 32 < genus {
+        return WalkAnswer::Refused(Refusal::GenusTooLarge);
+    }
+    WalkAnswer::Given(Walk {
+        genus,
+        word: (1 << genus) - 1,
+        finished: false,
+    })
+}
+
+// A walk of the word's genus that stands on the word: refused where the word is.
+pub fn start(word: u64) -> WalkAnswer
+    ensures { λ r. ⌜ begun r ≡ startOf word ⌝ }
+{
+    let answer = words::look(word);
+    match answer {
+        LookAnswer::Refused(r) => WalkAnswer::Refused(r),
+        LookAnswer::Given(report) => WalkAnswer::Given(Walk {
+            genus: report.genus,
+            word,
+            finished: false,
+        }),
+    }
+}
+
+// A batch by value: fills the lent list from the front with the words from the walk's on, as far as the list or the semigroups last, and
+// gives the walk that stands on the next. Refused above genus 32 and where the walk is out of order: then nothing is written, and the
+// walk is as it was.
+pub fn step(walk: Walk, out: &mut [u64]) -> Moved
+    ensures { λ r. ⌜ ended (r .answer) (r .walk) (now (out .exit)) ≡ batchOf walk (now (out .entry)) ⌝ }
+{
+    let genus = walk.genus;
+    if 32 < genus {
+        return Moved {
+            walk,
+            answer: BatchAnswer::Refused(Refusal::GenusTooLarge),
+        };
+    }
+    if !in_order(walk) {
+        return Moved {
+            walk,
+            answer: BatchAnswer::Refused(Refusal::WalkOutOfOrder),
+        };
+    }
+    if walk.finished {
+        return Moved {
+            walk,
+            answer: BatchAnswer::Given(Written {
+                count: 0,
+                finished: true,
+            }),
+        };
+    }
+    let none = Emitted {
+        written: 0,
+        more: false,
+        next: 0,
+    };
+    let s = resume(Node::root(), walk.word, genus, none, out);
+    let report = Written {
+        count: s.written,
+        finished: !s.more,
+    };
+    Moved {
+        walk: Walk {
+            genus,
+            word: s.next,
+            finished: !s.more,
+        },
+        answer: BatchAnswer::Given(report),
+    }
+}
+
+// The number of semigroups of a genus whose smallest gaps are exactly the word's gaps: refused where the word is, and above genus 32.
+pub fn count(word: u64, genus: u64) -> NumberAnswer
+    ensures { λ r. ⌜ answered r ≡ countOf word genus ⌝ }
+{
+    let answer = tables::node_of(word);
+    match answer {
+        NodeAnswer::Refused(r) => NumberAnswer::Refused(r),
+        NodeAnswer::Given(n) => {
+            if 32 < genus {
+                return NumberAnswer::Refused(Refusal::GenusTooLarge);
+            }
+            let own = words::genus_of(word);
+            if genus < own {
+                return NumberAnswer::Given(0);
+            }
+            NumberAnswer::Given(count_node(n, genus - own))
+        }
+    }
+}
+
+// A batch, which moves the walk of the caller on.
+pub fn batch(walk: &mut Walk, out: &mut [u64]) -> BatchAnswer
+    ensures { λ r. ⌜ ended r (now (walk .exit)) (now (out .exit)) ≡ batchOf (now (walk .entry)) (now (out .entry)) ⌝ }
+{
+    let moved = step(*walk, out);
+    *walk = moved.walk;
+    moved.answer
+}
+
+// A batch with plain parameters, the fields of the walk.
+pub fn batch_from(genus: u64, word: u64, finished: bool, out: &mut [u64]) -> Moved
+    ensures { λ r. ⌜ ended (r .answer) (r .walk) (now (out .exit)) ≡ batchOf record { genus = genus; word = word; finished = finished } (now (out .entry)) ⌝ }
+{
+    let mut walk = Walk {
+        genus,
+        word,
+        finished,
+    };
+    let answer = batch(&mut walk, out);
+    Moved { walk, answer }
+}
