@@ -1,19 +1,17 @@
 -- The leaves below a word by the bits of its first row: one branch for each bit, in order; how many they are; and those from one of
 -- them on. Assumes nothing.
-use Prim.Native.Nat.{ℕ, zero, suc, _+_, _-_, _^_, _≤_, _<_}
+use Prim.Native.Nat.{ℕ, suc, _+_, _-_, _^_, _≤_, _<_}
 use mathlib.Core.Path.{_≡_, refl, sym, _∙_, ap, subst}
-use mathlib.Core.Bool.{true}
 use mathlib.Core.List.{List, [], _∷_, _++_, append-assoc, map, List·Memᴰ, List·Memᴰ·head, List·Memᴰ·tail, List·Memᴰ·eq-of-singleton, Memᴰ·append-left, Memᴰ·append-right, Memᴰ·map, Memᴰ·of-map, Memᴰ·cast}
 use native.Mathlib.Omega.{arith}
-use native.Mathlib.Nat.{le-trans, le-of-eq}
 use lib.Count.{ones}
-use lib.ListN.{length, length-append}
+use lib.ListN.{length}
 use lib.Pow.{pow-mono}
 use borrow.Author.Tests.{eq-eqb}
 use Rattle.words.specs.Lists.{joined, sumOver, onFrom}
-use Rattle.words.specs.Words.{positions, gaps, genus, conductor, closed, childWord}
+use Rattle.words.specs.Words.{positions, gaps, genus, conductor, childWord}
 use Rattle.words.specs.Elements.{rightGenerators}
-use Rattle.words.specs.GenusList.{descendants, descendantCount}
+use Rattle.words.specs.GenusList.{descendantCount}
 use Rattle.words.proofs.Lists.{joined-mem, joined-map, length-joined, sum-of-powers, on-from-joined}
 use Rattle.words.proofs.StandingBits.{above, positions-ordered, positions-zero, positions-split, positions-ones}
 use Rattle.words.proofs.Elements.{conductor-pos}
@@ -35,9 +33,6 @@ module _ (r w : ℕ) where
     pub branches-first : branches r w bits ≡ leaves r (childWord w (conductor w + at)) ++ branches r w rest
     unfolding branches joined
     branches-first = ap (joined (λ d. leaves r (childWord w (conductor w + d)))) (low .first)
-
-    pub length-first : length (branches r w bits) ≡ length (leaves r (childWord w (conductor w + at))) + length (branches r w rest)
-    length-first = ap length branches-first ∙ length-append (leaves r (childWord w (conductor w + at))) (branches r w rest)
 
     pub offset-first : Offsets w bits → List·Memᴰ (conductor w + at) (rightGenerators w)
     offset-first o = o at (subst (List·Memᴰ at) (sym (low .first)) (List·Memᴰ·head refl))

@@ -13,7 +13,7 @@ use Rattle.walk.specs.Demand3.{atlas, Call, batches, reportedCount, wrot
 use Rattle.walk.proofs.Demand3.{served, batches-served}
 
 -- what a call answered and wrote
-abbrev seen : Call → Answer Written × List ℕ
+abbrev pub seen : Call → Answer Written × List ℕ
 seen c = (c .ending .answer, wrote c)
 
 -- genus 4 by lists of 3, 0 and 5: 15 23 39; nothing, unfinished; 71 27 75 85, finished

@@ -1,15 +1,14 @@
 -- Words put into a lent list: one after the other, and what became of the list when all were put. Assumes nothing.
 use Prim.Native.Nat.{ℕ, zero, suc, _+_, _≤_, _<_, min}
-use mathlib.Core.Path.{_≡_, refl, sym, ap, _∙_}
+use mathlib.Core.Path.{_≡_, refl, ap, _∙_}
 use mathlib.Core.Bool.{true, false, not}
-use mathlib.Core.List.{List, [], _∷_, _++_, append-assoc, append-nil}
+use mathlib.Core.List.{List, [], _∷_, _++_, append-assoc}
 use native.Mathlib.Omega.{arith}
 use native.Mathlib.Nat.{add-zero, zero-add}
 use native.Mathlib.Numerals.{add-one}
 use lib.ListN.{length, getD, take, drop, set, length-append}
 use lib.Seq.{set-append-seam}
 use borrow.Author.Tests.{lt-ltb, le-ltb}
-use Rattle.walk.specs.declared.Emitted.{Emitted}
 use Rattle.walk.specs.Walks.{none}
 use Rattle.walk.specs.Lending.{Lent, unwritten, putOne, putAll}
 

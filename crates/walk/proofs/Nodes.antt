@@ -11,7 +11,7 @@ use Rattle.words.specs.Elements.{rightGenerators}
 use Rattle.words.proofs.Answers.{Accepted}
 use Rattle.words.proofs.StandingBits.{above}
 use Rattle.words.proofs.Words.{genus-zero, closed-zero}
-use Rattle.words.proofs.Elements.{conductor-pos}
+use Rattle.words.proofs.Elements.{multiplicity-le-conductor, generator-offset, right-generators-mem}
 use Rattle.words.specs.Tree.{leaves}
 use Rattle.tables.specs.Nodes.{nodeOf, childNode, firstRow, nextOffset}
 use Rattle.tables.specs.declared.Node.{Node}
@@ -109,7 +109,7 @@ first-child r n right {m} {bits} {at} {rest} o low e =
 -- below the child at the offset d is the leaf v; from v on there are the leaves of that child from v on, and then the later branches
 pub record Below (r : ℕ) (n : Node) (v d : ℕ) : Type 0 where
   pub right : Right (r - 1 + 1) n
-  pub near : d < 63
+  pub near : d < 32
   pub child : Right (r - 1) (childNode n d)
   pub leaf : List·Memᴰ v (leaves (r - 1) (childNode n d .word))
   pub offsets : Offsets (n .word) (above (firstRow n) d)
@@ -131,7 +131,13 @@ next-child r n h at v m {d} e =
     let same = sym (child-word (r - 1) n right d (found .generates)) in
     record {
       right = right;
-      near = omega (arith, child-of (r - 1) w (levels (r - 1) n right) (found .generates) .low, conductor-pos w);
+      near =
+          omega (
+            arith,
+            child-of (r - 1) w (levels (r - 1) n right) (found .generates) .low,
+            generator-offset w (at .levels .fits) d (right-generators-mem w (at .levels .fits) (found .generates) .1),
+            multiplicity-le-conductor w (at .levels .fits),
+          );
       child = child-right (r - 1) n right d (found .generates);
       leaf = subst (λ (u : ℕ). List·Memᴰ v (leaves (r - 1) u)) same (found .leaf);
       offsets = found .later;

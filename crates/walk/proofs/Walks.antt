@@ -13,10 +13,10 @@ use borrow.Author.Tests.{le-leb, eq-eqb, eqb-true}
 use Rattle.words.specs.Lists.{onFrom, Ordered}
 use Rattle.words.specs.Words.{gaps, genus, closed}
 use Rattle.words.specs.GenusList.{genusList, descendantCount, Earlier}
-use Rattle.words.proofs.Lists.{mem-middle, mem-split, on-from}
+use Rattle.words.proofs.Lists.{mem-middle, mem-split, on-from, on-from-end}
 use Rattle.words.proofs.Words.{genus-zero, closed-zero}
 use Rattle.words.proofs.Tree.{descendants-zero, count-below, count-own}
-use Rattle.words.proofs.Booleans.{not-both}
+use Rattle.words.proofs.Booleans.{not-both, by-value}
 use Rattle.words.proofs.GenusList.{genus-list-mem, mem-genus-list, genus-list-ordered, before-asym}
 use Rattle.walk.specs.declared.Walk.{Walk}
 use Rattle.words.specs.Answers.{refused, given, ask}
@@ -45,6 +45,13 @@ module _ (g : ℕ) (k : List ℕ) where
   standing-in-order small (x ∷ l) e =
       let h = genus-list-mem g (subst (List·Memᴰ x) e (mem-middle k l x)) in
       rw (le-leb (genus x) 32 (le-trans (le-of-eq (h .gapped)) small), h .sums, eq-eqb (genus x) g (h .gapped))
+
+-- what a walk has still to give is an end of its genus list
+pub rest-end : (w : Walk) → (k : List ℕ) × (k ++ rest w ≡ genusList (w .genus))
+unfolding rest
+rest-end w =
+    by-value (w .finished) (λ e. (genusList (w .genus), rw e (append-nil (genusList (w .genus)))))
+    (λ e. let (k, s) = on-from-end (w .word) (genusList (w .genus)) in (k, rw e s))
 
 -- a walk in order, with a word of 64 bits, has an end of its genus list still to give
 in-order-stands : (g x : ℕ) (f : Bool) → x < 2 ^ 64 → inOrder record { genus = g; word = x; finished = f } ≡ true

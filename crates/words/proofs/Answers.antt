@@ -44,6 +44,19 @@ refusal-of-number MalformedInput = refl
 pub number-decides : (r s : Refusal) → numberOf r ≡ numberOf s → r ≡ s
 number-decides r s e = sym (refusal-of-number r) ∙ ap refusalOf e ∙ refusal-of-number s
 
+-- the numbers are from 1 to 10
+pub number-range : (r : Refusal) → (1 ≤ numberOf r) × (numberOf r ≤ 10)
+number-range TooManyGaps = omega arith
+number-range NotClosed = omega arith
+number-range GenusTooLarge = omega arith
+number-range WalkOutOfOrder = omega arith
+number-range NotAGenerator = omega arith
+number-range ListTooShort = omega arith
+number-range ZeroGenerator = omega arith
+number-range CommonDivisor = omega arith
+number-range TooManyGapsGenerated = omega arith
+number-range MalformedInput = omega arith
+
 -- ---- accepted words
 
 -- the word is accepted: its set is closed under addition, and it has at most 32 gaps

@@ -1,16 +1,16 @@
 -- Laws of `run`, `keep`, `every`, `joined`, `begins` and rising lists: what they hold, in which order, and how many. Assumes nothing.
-use Prim.Native.Nat.{ℕ, zero, suc, _+_, _-_, _^_, _≤_, _<_}
+use Prim.Native.Nat.{ℕ, zero, suc, _+_, _-_, _*_, _^_, _≤_, _<_}
 use mathlib.Core.Path.{_≡_, refl, sym, _∙_, ap, ap₂, subst}
 use mathlib.Core.Logic.{_⊎_, inl, inr, _↔_, ⊎-elim}
 use mathlib.Core.Bool.{Bool, true, false, _&&_, and-assoc, and-eq-true-iff, not, _||_, and-true, Bool·not-not}
 use mathlib.Core.List.{List, [], _∷_, _++_, append-assoc, map, map-append, List·Memᴰ, List·Memᴰ·head, List·Memᴰ·tail, List·Memᴰ·not-nil, List·Memᴰ·cases-cons, Memᴰ·cast, Memᴰ·append-left, Memᴰ·append-right, List·Memᴰ·append-cases, Memᴰ·of-map, append-nil}
 use native.Mathlib.Omega.{arith}
-use native.Mathlib.Nat.{add-zero, zero-add, suc-add, add-suc, eq-or-lt-of-le, le-of-eq, le-trans, le-of-lt, le-dest, pow-suc}
+use native.Mathlib.Nat.{add-zero, zero-add, suc-add, add-suc, eq-or-lt-of-le, le-of-eq, le-trans, le-of-lt, le-dest, pow-suc, suc-mul}
 use native.Mathlib.Numerals.{add-one}
 use lib.Dec.{eqb}
-use lib.ListN.{length, getD, take, drop, length-append, take-append-drop}
+use lib.ListN.{length, getD, take, drop, set, length-append, take-append-drop}
 use lib.Pow.{pow-mono}
-use lib.Seq.{take-append-seam, drop-cons}
+use lib.Seq.{take-append-seam, drop-cons, take-suc, sets}
 use borrow.Author.Tests.{eq-eqb, ne-eqb, eqb-true}
 use Rattle.words.specs.Lists.{run, keep, keepIf, every, joined, sumOver, lastOr, begins, onFrom, Ordered}
 use Rattle.words.proofs.Booleans.{not-both, by-value, not-and}
@@ -267,6 +267,22 @@ module _ {A B : Type 0} where
   length-joined f [] = refl
   length-joined f (x ∷ l) = length-append (f x) (joined f l) ∙ ap (λ (n : ℕ). length (f x) + n) (length-joined f l)
 
+  -- where f of each has at most n
+  pub length-joined-le : (f : A → List B) (n : ℕ) (l : List A) → ((x : A) → List·Memᴰ x l → length (f x) ≤ n) → length (joined f l) ≤ length l * n
+  unfolding joined
+  length-joined-le f n [] h = omega arith
+  length-joined-le f n (x ∷ l) h =
+      let here : length (f x) ≤ n = h x (List·Memᴰ·head refl) in
+      let later : length (joined f l) ≤ length l * n = length-joined-le f n l (λ y m. h y (List·Memᴰ·tail m)) in
+      omega (arith, length-append (f x) (joined f l), suc-mul (length l) n)
+
+  -- along one more of the first of a list
+  pub joined-more : (f : A → List B) (l : List A) (i : ℕ) (d : A) → i < length l → joined f (take (i + 1) l) ≡ joined f (take i l) ++ f (getD l i d)
+  unfolding joined
+  joined-more f l i d h =
+      rw (add-one, take-suc l i d)
+      (joined-append f (take i l) (getD l i d ∷ []) ∙ ap (λ (t : List B). joined f (take i l) ++ t) (append-nil (f (getD l i d))))
+
   -- in order: lists in order, joined along a list in order, each of the one before each of the next
   pub ordered-joined : (Q : A → A → Type 0) (R : B → B → Type 0) (f : A → List B) (l : List A) → Ordered Q l
       → ((x : A) → List·Memᴰ x l → Ordered R (f x))
@@ -491,3 +507,20 @@ sum-of-powers f n c (x ∷ l) o h =
     let next : n - x ≡ suc (n - suc x) = omega arith in
     let room : 2 ^ (n - x) ≤ 2 ^ (n - c) = pow-mono (omega arith) in
     omega (arith, ap (λ (k : ℕ). 2 ^ k) next, pow-suc 2 (n - suc x))
+
+-- a list from x on is an end of it
+pub on-from-end : (x : ℕ) (l : List ℕ) → (k : List ℕ) × (k ++ onFrom x l ≡ l)
+unfolding onFrom
+on-from-end x [] = ([], refl)
+on-from-end x (y ∷ l) =
+    by-value (eqb x y) (λ e. ([], rw e))
+    (λ e. let (k, s) = on-from-end x l in (y ∷ k, rw e (ap (λ (t : List ℕ). y ∷ t) s)))
+
+-- ---- stores in a row
+
+-- what is stored behind s is stored with it
+pub sets-append : {A : Type 0} (l : List A) (i : ℕ) (s t : List A) → sets l i (s ++ t) ≡ sets (sets l i s) (i + length s) t
+sets-append l i [] t = ap (λ (j : ℕ). sets l j t) (sym (add-zero i))
+sets-append l i (x ∷ s) t =
+    let place : suc i + length s ≡ i + suc (length s) = omega arith in
+    sets-append (set l i x) (suc i) s t ∙ ap (λ (j : ℕ). sets (sets (set l i x) (suc i) s) j t) place

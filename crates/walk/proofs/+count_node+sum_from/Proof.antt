@@ -1,14 +1,13 @@
 -- The proof of the cycle of calls {count_node, sum_from}. The levels below a node are the measure, and then what is left of its row.
 -- No sum wraps, since what is below some children of a node is less than 2 ^ 64. Assumes nothing.
 use Prim.Native.Nat.{ℕ, suc, _+_, _^_, suc-le-suc, _<_}
-use mathlib.Core.Path.{_≡_, sym, ap, _∙_}
+use mathlib.Core.Path.{_≡_, ap}
 use native.Mathlib.Nat.{zero-lt-suc}
 use native.Mathlib.Omega.{arith}
 use lib.Count.{ones-le}
 use lib.ListN.{length, length-append}
 use borrow.Fn.Kinds.{In}
 use borrow.Fn.PlainCycle.{Measures, is, falls, and}
-use Rattle.words.specs.Words.{conductor, childWord}
 use Rattle.words.specs.Tree.{leaves}
 use Rattle.walk.specs.Branches.{branches}
 use Rattle.walk.proofs.Branches.{branches-none, length-children, branches-fit}

@@ -1,13 +1,13 @@
 -- The proof of `resume`, which calls itself: the levels below a node are the measure. Assumes nothing.
 use Prim.Native.Nat.{ℕ, _+_, _*_, _/_, _%_, _^_, _<_}
-use mathlib.Core.Path.{_≡_, ap, _∙_}
+use mathlib.Core.Path.{_≡_, sym, ap, subst, _∙_}
 use native.Mathlib.Omega.{arith}
 use native.Mathlib.Nat.{mod-eq-of-lt, lt-of-le-of-lt, div-mul-le-self}
 use borrow.Fn.Kinds.{In}
 use borrow.Fn.PlainCycle.{Measures, is, falls, and}
 use Rattle.words.proofs.StandingBits.{above}
-use Rattle.words.specs.Tree.{leaves}
 use Rattle.tables.specs.Nodes.{firstRow}
+use Rattle.walk.specs.Branches.{Offsets}
 use Rattle.walk.specs.Lending.{putAll}
 use Rattle.walk.proofs.Branches.{on-from-own}
 use Rattle.walk.proofs.Nodes.{Below, next-child}
@@ -85,7 +85,7 @@ module _ (t : ℕ) where
   emit-from-requires : resume-lts.Need-emit-from-requires claims at resume.Post
   emit-from-requires c κs =
       let b = found (c .before .before .before .before .before .before .before .before) in
-      (b .right, rw (cut (c .before)) (b .offsets))
+      (b .right, subst (Offsets _) (sym (cut (c .before))) (b .offsets))
 
   returns : resume-lts.Need-returns claims at resume.Post
   unfolding putAll

@@ -1,6 +1,6 @@
--- `walk::batch` meets its contract: a walk of its MIR, by hand. The walk's borrow is opened, its value is copied and passed to `step`, with the slice at its own lifetime and name, which is given up for good (`gave-slice`);
--- of the `Moved` that `step` returns the walk is stored behind the borrow, which is closed at it, and the answer is returned. All that the proof knows of `step` is that it meets its contract.
--- Assumes nothing.
+-- `walk::batch` meets its contract, by a walk of its MIR by hand: the borrow of the walk is opened, its value is copied and passed to `step`
+-- with the slice at its own lifetime and name, which is given up for good; of the `Moved` that `step` returns, the walk is stored behind
+-- the borrow, which is closed at it, and the answer is returned. Assumes nothing.
 use mathlib.Core.Path.{_≡_, refl, ap}
 use Prim.Native.Nat.{ℕ}
 use mathlib.Core.List.{[], _∷_, List}

@@ -1,6 +1,6 @@
--- `walk::batch_from` meets its contract: a walk of its MIR, by hand. The walk is made of its fields, and its local is lent to `batch` for a lifetime ν that is made for the call, and comes back at the walk that `batch` left; the slice is passed on at its own lifetime and name, and given up for good.
--- All that the proof knows of `batch` is that it meets its contract.
--- Assumes nothing.
+-- `walk::batch_from` meets its contract, by a walk of its MIR by hand: the walk is made of its fields, its local is lent to `batch` for a
+-- lifetime that is made for the call, and comes back at the walk that `batch` left; the slice is passed on at its own lifetime and name,
+-- and given up for good. Assumes nothing.
 use mathlib.Core.Path.{_≡_, refl, ap}
 use Prim.Native.Nat.{ℕ, _^_, _<_}
 use mathlib.Core.Bool.{Bool}

@@ -1,6 +1,6 @@
 -- `walk::fresh` meets its contract. Assumes nothing.
 use Prim.Native.Nat.{ℕ, _-_}
-use mathlib.Core.Path.{_≡_, sym, ap, _∙_}
+use mathlib.Core.Path.{sym, ap, _∙_}
 use mathlib.Core.Bool.{false}
 use native.Mathlib.Omega.{arith}
 use lib.Pow.{pow-pos}
@@ -17,7 +17,7 @@ shl-t4 : tie.Need-shl-t4
 shl-t4 c = omega arith
 
 sub-t5 : tie.Need-sub-t5
-sub-t5 c = rw (one-shl (c .before .args .genus) (omega arith)) (pow-pos (c .before .args .genus))
+sub-t5 c = omega (arith, one-shl (c .before .args .genus) (omega arith), pow-pos (c .before .args .genus))
 
 returns-2 : tie.Need-returns-2
 returns-2 c = sym (fresh-given _ (c .if1 .left) ∙ ap (λ (k : ℕ). given record { genus = c .before .args .genus; word = k - 1; finished = false }) (sym (one-shl _ (omega arith))))

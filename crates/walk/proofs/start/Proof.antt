@@ -1,5 +1,5 @@
 -- `walk::start` meets its contract: the questions are those of the look. Assumes nothing.
-use mathlib.Core.Path.{_≡_, sym, ap, _∙_}
+use mathlib.Core.Path.{sym, ap, _∙_}
 use mathlib.Core.Bool.{false}
 use borrow.Author.Needs.{needs}
 use Rattle.words.specs.Answers.{refused, given, looked, reportOf}

@@ -1,0 +1,614 @@
+//! Random calls of the atlas, valid and damaged, against an implementation from the plain definitions: sets of numbers, sums of two
+//! elements, gap lists. It uses no bit tricks and no seed tables but those of definition 1.3. Prints the seed, the number of calls of each
+//! kind and the number of differences, which must be 0.
+
+// ---- the atlas, by its C interface (include/atlas.h)
+
+#[repr(C)]
+#[derive(Clone, Copy, PartialEq, Debug)]
+struct Number {
+    refused: u64,
+    value: u64,
+}
+
+#[repr(C)]
+#[derive(Clone, Copy, PartialEq, Debug)]
+struct Report {
+    refused: u64,
+    genus: u64,
+    multiplicity: u64,
+    conductor: u64,
+}
+
+#[repr(C)]
+#[derive(Clone, Copy, PartialEq, Debug)]
+struct Walk {
+    genus: u64,
+    word: u64,
+    finished: bool,
+}
+
+#[repr(C)]
+#[derive(Clone, Copy, PartialEq, Debug)]
+struct Begun {
+    refused: u64,
+    walk: Walk,
+}
+
+#[repr(C)]
+#[derive(Clone, Copy, PartialEq, Debug)]
+struct Moved {
+    refused: u64,
+    walk: Walk,
+    count: usize,
+    finished: bool,
+}
+
+extern "C" {
+    fn atlas_look(word: u64) -> Report;
+    fn atlas_seed_table(word: u64) -> Number;
+    fn atlas_child(word: u64, element: u64) -> Number;
+    fn atlas_fresh(genus: u64) -> Begun;
+    fn atlas_start(word: u64) -> Begun;
+    fn atlas_batch(walk: Walk, out: *mut u64, length: usize) -> Moved;
+    fn atlas_count(word: u64, genus: u64) -> Number;
+    fn atlas_generators(word: u64, out: *mut u8, length: usize) -> Number;
+    fn atlas_word_from(list: *const u8, length: usize) -> Number;
+    fn atlas_elementary(frobenius: u64, genus: u64) -> Number;
+}
+
+// ---- the plain definitions
+
+const NO_WALK: Walk = Walk {
+    genus: 0,
+    word: 0,
+    finished: false,
+};
+
+fn given(value: u64) -> Number {
+    Number { refused: 0, value }
+}
+
+fn refused(refused: u64) -> Number {
+    Number { refused, value: 0 }
+}
+
+/// Is x in the set of the word?
+fn holds(word: u64, x: u64) -> bool {
+    x == 0 || x > 64 || word / 2u64.pow(x as u32 - 1) % 2 == 0
+}
+
+fn gaps(word: u64) -> Vec<u64> {
+    (1..=64).filter(|&x| !holds(word, x)).collect()
+}
+
+fn word_of(gaps: &[u64]) -> u64 {
+    gaps.iter().map(|&x| 2u64.pow(x as u32 - 1)).sum()
+}
+
+fn sum_of_two(set: impl Fn(u64) -> bool, n: u64) -> bool {
+    (1..n).any(|a| set(a) && set(n - a))
+}
+
+fn closed(word: u64) -> bool {
+    gaps(word).iter().all(|&x| !sum_of_two(|a| holds(word, a), x))
+}
+
+/// Questions 1 and 2.
+fn word_refused(word: u64) -> Option<u64> {
+    if gaps(word).len() > 32 {
+        Some(1)
+    } else if !closed(word) {
+        Some(2)
+    } else {
+        None
+    }
+}
+
+fn conductor(word: u64) -> u64 {
+    gaps(word).last().map_or(1, |f| f + 1)
+}
+
+fn multiplicity(word: u64) -> u64 {
+    (1..).find(|&x| holds(word, x)).unwrap()
+}
+
+fn generator(word: u64, x: u64) -> bool {
+    x > 0 && holds(word, x) && !sum_of_two(|a| holds(word, a), x)
+}
+
+fn seed_table(word: u64) -> u64 {
+    let c = conductor(word);
+    let k = (c - gaps(word).len() as u64) as usize;
+    let elements: Vec<u64> = (0..).filter(|&x| holds(word, x)).take(k + 1).collect();
+    let mut table = 0;
+    let mut place = 0;
+    for i in 0..k {
+        for j in 0..elements[i + 1] - elements[i] {
+            let left = |x: u64| holds(word, x) && !elements[1..=i].contains(&x);
+            if !sum_of_two(left, c + j + elements[i]) {
+                table += 2u64.pow(place);
+            }
+            place += 1;
+        }
+    }
+    table
+}
+
+fn children(word: u64) -> Vec<u64> {
+    let c = conductor(word);
+    (c..c + multiplicity(word)).filter(|&x| x <= 64 && generator(word, x)).map(|x| word + 2u64.pow(x as u32 - 1)).collect()
+}
+
+fn minimal_generators(word: u64) -> Vec<u8> {
+    (1..conductor(word) + multiplicity(word)).filter(|&x| generator(word, x)).map(|x| x as u8).collect()
+}
+
+fn gcd(a: u64, b: u64) -> u64 {
+    if b == 0 { a } else { gcd(b, a % b) }
+}
+
+/// The word of all sums, by the sums from 1 on until a whole period of them is reached.
+fn word_from(list: &[u8]) -> Number {
+    if list.contains(&0) {
+        return refused(7);
+    }
+    if list.iter().fold(0, |d, &a| gcd(d, a as u64)) != 1 {
+        return refused(8);
+    }
+    let least = *list.iter().min().unwrap() as usize;
+    let mut sums = vec![true];
+    let mut missed = Vec::new();
+    let mut in_row = 0;
+    while in_row < least {
+        let n = sums.len();
+        let sum = list.iter().any(|&a| a as usize <= n && sums[n - a as usize]);
+        sums.push(sum);
+        in_row = if sum { in_row + 1 } else { 0 };
+        if !sum {
+            missed.push(n as u64);
+        }
+        if missed.len() > 32 {
+            return refused(9);
+        }
+    }
+    given(word_of(&missed))
+}
+
+fn begins(word: u64, other: u64) -> bool {
+    gaps(other).starts_with(&gaps(word))
+}
+
+/// All gap sets of g numbers up to 2 g - 1, in list order, of which the closed ones are kept.
+fn searched(g: u64) -> Vec<u64> {
+    fn go(left: u64, from: u64, to: u64, front: &mut Vec<u64>, list: &mut Vec<u64>) {
+        if left == 0 {
+            let word = word_of(front);
+            if closed(word) {
+                list.push(word);
+            }
+            return;
+        }
+        for x in from..=to {
+            front.push(x);
+            go(left - 1, x + 1, to, front, list);
+            front.pop();
+        }
+    }
+    let mut list = Vec::new();
+    go(g, 1, (2 * g).saturating_sub(1), &mut Vec::new(), &mut list);
+    list
+}
+
+// ---- random numbers
+
+struct Random(u64);
+
+impl Random {
+    fn next(&mut self) -> u64 {
+        self.0 ^= self.0 << 13;
+        self.0 ^= self.0 >> 7;
+        self.0 ^= self.0 << 17;
+        self.0
+    }
+
+    fn below(&mut self, n: u64) -> u64 {
+        self.next() % n
+    }
+}
+
+/// Words of semigroups, and words that are damaged.
+struct Words {
+    lists: Vec<Vec<u64>>,
+    deep: Vec<u64>,
+}
+
+impl Words {
+    fn valid(&self, r: &mut Random) -> u64 {
+        if r.below(2) == 0 {
+            self.deep[r.below(self.deep.len() as u64) as usize]
+        } else {
+            let list = &self.lists[r.below(self.lists.len() as u64) as usize];
+            list[r.below(list.len() as u64) as usize]
+        }
+    }
+
+    fn any(&self, r: &mut Random) -> u64 {
+        match r.below(8) {
+            0 => r.next(),
+            1 => r.next() & r.next() & r.next(),
+            2 => self.valid(r) ^ 1 << r.below(64),
+            3 => self.valid(r) ^ 1 << r.below(64) ^ 1 << r.below(64),
+            4 => [0, u64::MAX, 1 << 63, 13, (1 << 33) - 1, (1 << 32) - 1, 6148914691236517205][r.below(7) as usize],
+            _ => self.valid(r),
+        }
+    }
+}
+
+struct Kind {
+    name: &'static str,
+    calls: u64,
+    differences: u64,
+}
+
+impl Kind {
+    fn new(name: &'static str) -> Kind {
+        Kind {
+            name,
+            calls: 0,
+            differences: 0,
+        }
+    }
+
+    fn same<T: PartialEq + std::fmt::Debug>(&mut self, ours: T, plain: T, asked: &dyn Fn() -> String) {
+        self.calls += 1;
+        if ours != plain {
+            self.differences += 1;
+            if self.differences < 4 {
+                println!("{} {}: ours {:?}, plain {:?}", self.name, asked(), ours, plain);
+            }
+        }
+    }
+}
+
+// ---- the calls
+
+fn looks(n: u64, words: &Words, r: &mut Random) -> Kind {
+    let mut kind = Kind::new("look");
+    for _ in 0..n {
+        let w = words.any(r);
+        let plain = match word_refused(w) {
+            Some(q) => Report {
+                refused: q,
+                genus: 0,
+                multiplicity: 0,
+                conductor: 0,
+            },
+            None => Report {
+                refused: 0,
+                genus: gaps(w).len() as u64,
+                multiplicity: multiplicity(w),
+                conductor: conductor(w),
+            },
+        };
+        kind.same(unsafe { atlas_look(w) }, plain, &|| w.to_string());
+    }
+    kind
+}
+
+fn tables(n: u64, words: &Words, r: &mut Random) -> Kind {
+    let mut kind = Kind::new("seed table");
+    for _ in 0..n {
+        let w = words.any(r);
+        let plain = word_refused(w).map_or_else(|| given(seed_table(w)), refused);
+        kind.same(unsafe { atlas_seed_table(w) }, plain, &|| w.to_string());
+    }
+    kind
+}
+
+fn childs(n: u64, words: &Words, r: &mut Random) -> Kind {
+    let mut kind = Kind::new("child");
+    for _ in 0..n {
+        let w = words.any(r);
+        let e = match r.below(4) {
+            0 => r.next(),
+            1 => r.below(140),
+            _ => conductor(w).wrapping_add(r.below(10)),
+        };
+        let plain = if let Some(q) = word_refused(w) {
+            refused(q)
+        } else if gaps(w).len() + 1 > 32 {
+            refused(3)
+        } else if e < conductor(w) || e > 200 || !generator(w, e) {
+            refused(5)
+        } else {
+            given(w + 2u64.pow(e as u32 - 1))
+        };
+        kind.same(unsafe { atlas_child(w, e) }, plain, &|| format!("{w} {e}"));
+    }
+    kind
+}
+
+fn starts(n: u64, words: &Words, r: &mut Random) -> Kind {
+    let mut kind = Kind::new("fresh, start");
+    for _ in 0..n {
+        let g = if r.below(8) == 0 { r.next() } else { r.below(40) };
+        let plain = if g > 32 {
+            Begun {
+                refused: 3,
+                walk: NO_WALK,
+            }
+        } else {
+            Begun {
+                refused: 0,
+                walk: Walk {
+                    genus: g,
+                    word: word_of(&(1..=g).collect::<Vec<_>>()),
+                    finished: false,
+                },
+            }
+        };
+        kind.same(unsafe { atlas_fresh(g) }, plain, &|| g.to_string());
+        let w = words.any(r);
+        let plain = match word_refused(w) {
+            Some(q) => Begun {
+                refused: q,
+                walk: NO_WALK,
+            },
+            None => Begun {
+                refused: 0,
+                walk: Walk {
+                    genus: gaps(w).len() as u64,
+                    word: w,
+                    finished: false,
+                },
+            },
+        };
+        kind.same(unsafe { atlas_start(w) }, plain, &|| w.to_string());
+    }
+    kind
+}
+
+/// The words of the walk's genus list from its word on, at most `most` of them: by the list where it is at hand, else by the tree.
+fn rest(words: &Words, walk: Walk, most: usize) -> Vec<u64> {
+    if walk.finished {
+        return Vec::new();
+    }
+    if let Some(list) = words.lists.get(walk.genus as usize) {
+        let place = list.iter().position(|&w| w == walk.word).unwrap();
+        return list[place..].iter().copied().take(most).collect();
+    }
+    fn below(word: u64, left: usize, most: usize, list: &mut Vec<u64>) {
+        if list.len() >= most {
+            return;
+        }
+        if left == 0 {
+            list.push(word);
+            return;
+        }
+        for child in children(word) {
+            below(child, left - 1, most, list);
+        }
+    }
+    let path = gaps(walk.word);
+    let mut list = vec![walk.word];
+    for i in (0..path.len()).rev() {
+        for child in children(word_of(&path[..i])) {
+            if child > word_of(&path[..=i]) {
+                below(child, path.len() - i - 1, most, &mut list);
+            }
+        }
+    }
+    list.truncate(most);
+    list
+}
+
+fn batches(n: u64, words: &Words, r: &mut Random) -> Kind {
+    let mut kind = Kind::new("batch");
+    for i in 0..n {
+        let word = if i % 50 == 0 { words.any(r) } else { words.lists[r.below(14) as usize].clone()[0] };
+        let word = if i % 50 != 0 && r.below(4) != 0 {
+            let list = &words.lists[gaps(word).len()];
+            list[r.below(list.len() as u64) as usize]
+        } else {
+            word
+        };
+        let walk = match r.below(12) {
+            0 => Walk {
+                genus: r.below(50),
+                word,
+                finished: false,
+            },
+            1 => Walk {
+                genus: r.below(36),
+                word: 0,
+                finished: true,
+            },
+            2 => Walk {
+                genus: r.below(34),
+                word: r.below(3),
+                finished: r.below(2) == 0,
+            },
+            _ => Walk {
+                genus: gaps(word).len() as u64,
+                word,
+                finished: false,
+            },
+        };
+        let length = [0, 1, 2, 3, 7, 20][r.below(6) as usize];
+        let lent: Vec<u64> = (0..length).map(|_| r.next()).collect();
+        let mut ours = lent.clone();
+        let moved = unsafe { atlas_batch(walk, ours.as_mut_ptr(), ours.len()) };
+        let in_order = if walk.finished {
+            walk.word == 0
+        } else {
+            word_refused(walk.word).is_none() && gaps(walk.word).len() as u64 == walk.genus
+        };
+        let refusal = if walk.genus > 32 { 3 } else { 4 };
+        let plain = if walk.genus > 32 || !in_order {
+            Moved {
+                refused: refusal,
+                walk,
+                count: 0,
+                finished: false,
+            }
+        } else {
+            let list = rest(words, walk, length + 1);
+            let count = list.len().min(length);
+            let next = list.get(count);
+            Moved {
+                refused: 0,
+                walk: Walk {
+                    genus: walk.genus,
+                    word: next.copied().unwrap_or(0),
+                    finished: next.is_none(),
+                },
+                count,
+                finished: next.is_none(),
+            }
+        };
+        let mut list = lent.clone();
+        if plain.refused == 0 {
+            list[..plain.count].copy_from_slice(&rest(words, walk, length)[..plain.count]);
+        }
+        kind.same((moved, ours), (plain, list), &|| format!("{walk:?} {length}"));
+    }
+    kind
+}
+
+fn counts(n: u64, words: &Words, r: &mut Random) -> Kind {
+    let mut kind = Kind::new("count");
+    for _ in 0..n {
+        let w = if r.below(4) == 0 { words.any(r) } else { words.lists[r.below(12) as usize][0] };
+        let g = if r.below(8) == 0 { r.next() } else { r.below(16) };
+        let plain = if let Some(q) = word_refused(w) {
+            refused(q)
+        } else if g > 32 {
+            refused(3)
+        } else {
+            given(words.lists[g as usize].iter().filter(|&&v| begins(w, v)).count() as u64)
+        };
+        kind.same(unsafe { atlas_count(w, g) }, plain, &|| format!("{w} {g}"));
+    }
+    kind
+}
+
+fn generators(n: u64, words: &Words, r: &mut Random) -> Kind {
+    let mut kind = Kind::new("generators");
+    for _ in 0..n {
+        let w = words.any(r);
+        let length = r.below(40) as usize;
+        let lent: Vec<u8> = (0..length).map(|_| r.next() as u8).collect();
+        let mut ours = lent.clone();
+        let answer = unsafe { atlas_generators(w, ours.as_mut_ptr(), length) };
+        let mut list = lent.clone();
+        let plain = match word_refused(w) {
+            Some(q) => refused(q),
+            None => {
+                let all = minimal_generators(w);
+                if all.len() > length {
+                    refused(6)
+                } else {
+                    list[..all.len()].copy_from_slice(&all);
+                    given(all.len() as u64)
+                }
+            }
+        };
+        kind.same((answer, ours), (plain, list), &|| format!("{w} {length}"));
+    }
+    kind
+}
+
+fn words_from(n: u64, words: &Words, r: &mut Random) -> Kind {
+    let mut kind = Kind::new("word from generators");
+    for _ in 0..n {
+        let mut list: Vec<u8> = match r.below(3) {
+            0 => minimal_generators(words.valid(r)),
+            1 => (0..r.below(6)).map(|_| 1 + r.below(70) as u8).collect(),
+            _ => (0..r.below(12)).map(|_| r.next() as u8).collect(),
+        };
+        for _ in 0..r.below(4) {
+            match r.below(4) {
+                0 => list.push(if r.below(9) == 0 { 0 } else { r.next() as u8 }),
+                1 if !list.is_empty() => {
+                    let i = r.below(list.len() as u64) as usize;
+                    list.push(list[i]);
+                }
+                2 if !list.is_empty() => {
+                    let i = r.below(list.len() as u64) as usize;
+                    list.remove(i);
+                }
+                _ => list.reverse(),
+            }
+        }
+        kind.same(unsafe { atlas_word_from(list.as_ptr(), list.len()) }, word_from(&list), &|| format!("{list:?}"));
+    }
+    kind
+}
+
+fn elementaries(n: u64, words: &Words, r: &mut Random) -> Kind {
+    let mut kind = Kind::new("elementary");
+    let mut table = vec![vec![0u64; 64]; words.lists.len()];
+    for (g, list) in words.lists.iter().enumerate() {
+        for &w in list {
+            if w != 0 && conductor(w) - 1 < 2 * multiplicity(w) {
+                table[g][conductor(w) as usize - 1] += 1;
+            }
+        }
+    }
+    for _ in 0..n {
+        let g = if r.below(8) == 0 { 33 + r.below(1 << 40) } else { r.below(table.len() as u64) };
+        let f = if r.below(8) == 0 { r.next() } else { r.below(64) };
+        let plain = if g > 32 {
+            refused(3)
+        } else {
+            given(if f < 64 { table[g as usize][f as usize] } else { 0 })
+        };
+        kind.same(unsafe { atlas_elementary(f, g) }, plain, &|| format!("{f} {g}"));
+    }
+    kind
+}
+
+fn main() {
+    let seed = std::env::args().nth(1).map_or(20261115, |s| s.parse().expect("a seed is a number"));
+    let mut r = Random(seed | 1);
+    let mut lists = vec![vec![0]];
+    for g in 1..19 {
+        let next: Vec<u64> = lists[g - 1].iter().flat_map(|&w| children(w)).collect();
+        lists.push(next);
+    }
+    for g in 0..12 {
+        assert!(lists[g] == searched(g as u64), "the plain search of genus {g}");
+    }
+    let mut deep = Vec::new();
+    while deep.len() < 3000 {
+        let mut w = lists[8][r.below(lists[8].len() as u64) as usize];
+        for _ in 0..r.below(25) {
+            let below = children(w);
+            if below.is_empty() {
+                break;
+            }
+            w = below[r.below(below.len() as u64) as usize];
+        }
+        deep.push(w);
+    }
+    let words = Words { lists, deep };
+    let kinds = [
+        looks(400_000, &words, &mut r),
+        tables(100_000, &words, &mut r),
+        childs(150_000, &words, &mut r),
+        starts(60_000, &words, &mut r),
+        batches(100_000, &words, &mut r),
+        counts(10_000, &words, &mut r),
+        generators(100_000, &words, &mut r),
+        words_from(150_000, &words, &mut r),
+        elementaries(50_000, &words, &mut r),
+    ];
+    println!("seed {seed}");
+    for kind in &kinds {
+        println!("{:>9} calls of {}: {} differences", kind.calls, kind.name, kind.differences);
+    }
+    let differences: u64 = kinds.iter().map(|k| k.differences).sum();
+    println!("{:>9} calls in all: {} differences", kinds.iter().map(|k| k.calls).sum::<u64>(), differences);
+    std::process::exit((differences != 0) as i32);
+}

@@ -1,0 +1,113 @@
+//! The tree of semigroups by seed tables in plain Rust, as one would write it for speed without proofs: children by the bits of
+//! the table's first row, the last level without tables.
+#![crate_type = "staticlib"]
+
+#[derive(Clone, Copy)]
+struct Node {
+    word: u64,
+    table: u64,
+    conductor: u32,
+}
+
+const FIRST: Node = Node {
+    word: 1,
+    table: 3,
+    conductor: 2,
+};
+
+impl Node {
+    fn first_row(self) -> u64 {
+        self.table & (self.word ^ (self.word + 1))
+    }
+
+    fn child(self, d: u32) -> Node {
+        let mut rake = self.word;
+        let mut table = self.table;
+        for _ in 0..d {
+            rake <<= 1;
+            table &= rake;
+        }
+        let c = self.conductor + d;
+        Node {
+            word: self.word | 1 << (c - 1),
+            table: table >> d >> 1 | 7 << (c - 2),
+            conductor: c + 1,
+        }
+    }
+}
+
+fn count(n: Node, left: u32) -> u64 {
+    let mut row = n.first_row();
+    if left == 1 {
+        return row.count_ones() as u64;
+    }
+    let mut sum = 0;
+    while row != 0 {
+        sum += count(n.child(row.trailing_zeros()), left - 1);
+        row &= row - 1;
+    }
+    sum
+}
+
+/// The number of semigroups of a genus.
+#[no_mangle]
+pub extern "C" fn plain_count(genus: u32) -> u64 {
+    if genus < 2 { 1 } else { count(FIRST, genus - 1) }
+}
+
+struct Sink<'a> {
+    words: &'a mut [u64],
+    used: usize,
+    total: u64,
+    mixed: u64,
+}
+
+impl Sink<'_> {
+    fn put(&mut self, word: u64) {
+        if self.used == self.words.len() {
+            self.flush();
+        }
+        self.words[self.used] = word;
+        self.used += 1;
+    }
+
+    fn flush(&mut self) {
+        for &word in &self.words[..self.used] {
+            self.mixed = self.mixed.wrapping_mul(31).wrapping_add(word);
+        }
+        self.total += self.used as u64;
+        self.used = 0;
+    }
+}
+
+fn walk(n: Node, left: u32, sink: &mut Sink) {
+    let mut row = n.first_row();
+    while row != 0 {
+        let d = row.trailing_zeros();
+        row &= row - 1;
+        if left == 1 {
+            sink.put(n.word | 1 << (n.conductor + d - 1));
+        } else {
+            walk(n.child(d), left - 1, sink);
+        }
+    }
+}
+
+/// All semigroups of a genus through a buffer: how many, and a number mixed from their words in order.
+#[no_mangle]
+pub unsafe extern "C" fn plain_walk(genus: u32, words: *mut u64, length: usize, mixed: *mut u64) -> u64 {
+    let mut sink = Sink {
+        words: std::slice::from_raw_parts_mut(words, length),
+        used: 0,
+        total: 0,
+        mixed: 0,
+    };
+    match genus {
+        0 => sink.put(0),
+        1 => sink.put(1),
+        _ => walk(FIRST, genus - 1, &mut sink),
+    }
+    sink.flush();
+    *mixed = sink.mixed;
+    sink.total
+}

@@ -1,0 +1,224 @@
+// The calls of the atlas for callers in C and in languages that call C. An answer is a struct by value: first the number of the
+// refusal, 0 where there is none, then the values, all 0 where the call is refused. A list is a pointer and a length.
+ghost use mathlib.Core.Path.{_≡_};
+ghost use Rattle.words.specs.Answers.{answered, looked, lookOf};
+ghost use Rattle.tables.specs.Answers.{tableOf, childOf};
+ghost use Rattle.walk.specs.Answers.{begun, reported};
+ghost use Rattle.walk.specs.Walks.{freshOf, startOf, batchOf, countOf};
+ghost use Rattle.generators.specs.Generators.{generatorsOf, wordFromOf};
+ghost use Rattle.elementary.specs.Answers.{elementaryOf};
+ghost use Rattle.atlas.specs.Interface.{numberIn, reportIn, begunIn, walkFrom, movedIn};
+use walk::BatchAnswer;
+use walk::Walk;
+use walk::WalkAnswer;
+use words::Element;
+use words::LookAnswer;
+use words::NumberAnswer;
+
+// A number, or the number of a refusal.
+#[repr(C)]
+pub struct AtlasNumber {
+    pub refused: u64,
+    pub value: u64,
+}
+
+// What is told of a word, or the number of a refusal.
+#[repr(C)]
+pub struct AtlasReport {
+    pub refused: u64,
+    pub genus: u64,
+    pub multiplicity: u64,
+    pub conductor: u64,
+}
+
+// A walk: its genus, the next word and the finished mark.
+#[repr(C)]
+pub struct AtlasWalk {
+    pub genus: u64,
+    pub word: u64,
+    pub finished: bool,
+}
+
+// A walk that a call began, or the number of a refusal.
+#[repr(C)]
+pub struct AtlasBegun {
+    pub refused: u64,
+    pub walk: AtlasWalk,
+}
+
+// How a batch ended: the number of a refusal, the walk afterwards, the number of words written, and whether none are left.
+#[repr(C)]
+pub struct AtlasMoved {
+    pub refused: u64,
+    pub walk: AtlasWalk,
+    pub count: usize,
+    pub finished: bool,
+}
+
+fn number_of(answer: NumberAnswer) -> AtlasNumber
+    ensures { λ r. ⌜ r ≡ numberIn (answered answer) ⌝ }
+{
+    match answer {
+        NumberAnswer::Refused(refusal) => AtlasNumber {
+            refused: refusal.number(),
+            value: 0,
+        },
+        NumberAnswer::Given(value) => AtlasNumber { refused: 0, value },
+    }
+}
+
+fn report_of(answer: LookAnswer) -> AtlasReport
+    ensures { λ r. ⌜ r ≡ reportIn (looked answer) ⌝ }
+{
+    match answer {
+        LookAnswer::Refused(refusal) => AtlasReport {
+            refused: refusal.number(),
+            genus: 0,
+            multiplicity: 0,
+            conductor: 0,
+        },
+        LookAnswer::Given(report) => AtlasReport {
+            refused: 0,
+            genus: report.genus,
+            multiplicity: report.multiplicity,
+            conductor: report.conductor,
+        },
+    }
+}
+
+fn begun_of(answer: WalkAnswer) -> AtlasBegun
+    ensures { λ r. ⌜ r ≡ begunIn (begun answer) ⌝ }
+{
+    match answer {
+        WalkAnswer::Refused(refusal) => AtlasBegun {
+            refused: refusal.number(),
+            walk: AtlasWalk {
+                genus: 0,
+                word: 0,
+                finished: false,
+            },
+        },
+        WalkAnswer::Given(walk) => AtlasBegun {
+            refused: 0,
+            walk: AtlasWalk {
+                genus: walk.genus,
+                word: walk.word,
+                finished: walk.finished,
+            },
+        },
+    }
+}
+
+fn moved_of(walk: Walk, answer: BatchAnswer) -> AtlasMoved
+    ensures { λ r. ⌜ r ≡ movedIn walk (reported answer) ⌝ }
+{
+    let walk = AtlasWalk {
+        genus: walk.genus,
+        word: walk.word,
+        finished: walk.finished,
+    };
+    match answer {
+        BatchAnswer::Refused(refusal) => AtlasMoved {
+            refused: refusal.number(),
+            walk,
+            count: 0,
+            finished: false,
+        },
+        BatchAnswer::Given(written) => AtlasMoved {
+            refused: 0,
+            walk,
+            count: written.count,
+            finished: written.finished,
+        },
+    }
+}
+
+// Genus, multiplicity and conductor of a word. Questions 1, 2.
+#[no_mangle]
+pub extern "C" fn atlas_look(word: u64) -> AtlasReport
+    ensures { λ r. ⌜ r ≡ reportIn (lookOf word) ⌝ }
+{
+    report_of(words::look(word))
+}
+
+// The seed table of a word. Questions 1, 2.
+#[no_mangle]
+pub extern "C" fn atlas_seed_table(word: u64) -> AtlasNumber
+    ensures { λ r. ⌜ r ≡ numberIn (tableOf word) ⌝ }
+{
+    number_of(tables::seed_table(word))
+}
+
+// The word of the child without a generator. Questions 1, 2, 3, 5.
+#[no_mangle]
+pub extern "C" fn atlas_child(word: u64, element: u64) -> AtlasNumber
+    ensures { λ r. ⌜ r ≡ numberIn (childOf word element) ⌝ }
+{
+    number_of(tables::child(word, Element(element)))
+}
+
+// A walk on the first semigroup of a genus. Question 3.
+#[no_mangle]
+pub extern "C" fn atlas_fresh(genus: u64) -> AtlasBegun
+    ensures { λ r. ⌜ r ≡ begunIn (freshOf genus) ⌝ }
+{
+    begun_of(walk::fresh(genus))
+}
+
+// A walk on a given word. Questions 1, 2.
+#[no_mangle]
+pub extern "C" fn atlas_start(word: u64) -> AtlasBegun
+    ensures { λ r. ⌜ r ≡ begunIn (startOf word) ⌝ }
+{
+    begun_of(walk::start(word))
+}
+
+// The next words into a lent list. Questions 3, 4.
+#[no_mangle]
+pub extern "C" fn atlas_batch(walk: AtlasWalk, out: &mut [u64]) -> AtlasMoved
+    ensures { λ r. ⌜ (r ≡ movedIn (batchOf (walkFrom walk) (now (out .entry)) .walk) (batchOf (walkFrom walk) (now (out .entry)) .answer)) × (now (out .exit) ≡ batchOf (walkFrom walk) (now (out .entry)) .list) ⌝ }
+{
+    let moved = walk::step(
+        Walk {
+            genus: walk.genus,
+            word: walk.word,
+            finished: walk.finished,
+        },
+        out,
+    );
+    let after = moved.walk;
+    let answer = moved.answer;
+    moved_of(after, answer)
+}
+
+// The number of semigroups of a genus whose smallest gaps are exactly the word's. Questions 1, 2, 3.
+#[no_mangle]
+pub extern "C" fn atlas_count(word: u64, genus: u64) -> AtlasNumber
+    ensures { λ r. ⌜ r ≡ numberIn (countOf word genus) ⌝ }
+{
+    number_of(walk::count(word, genus))
+}
+
+// The number of elementary semigroups of a genus with a largest gap. Question 3.
+#[no_mangle]
+pub extern "C" fn atlas_elementary(frobenius: u64, genus: u64) -> AtlasNumber
+    ensures { λ r. ⌜ r ≡ numberIn (elementaryOf frobenius genus) ⌝ }
+{
+    number_of(elementary::elementary(frobenius, genus))
+}
+
+// The minimal generators of a word in rising order into a lent list, and their number. Questions 1, 2, 6.
+#[no_mangle]
+pub extern "C" fn atlas_generators(word: u64, out: &mut [u8]) -> AtlasNumber
+    ensures { λ r. ⌜ (r ≡ numberIn (generatorsOf word (now (out .entry)) .answer)) × (now (out .exit) ≡ generatorsOf word (now (out .entry)) .list) ⌝ }
+{
+    number_of(generators::generators(word, out))
+}
+
+// The word of all sums of the given generators. Questions 7, 8, 9.
+#[no_mangle]
+pub extern "C" fn atlas_word_from(list: &[u8]) -> AtlasNumber
+    ensures { λ r. ⌜ r ≡ numberIn (wordFromOf (now (list .entry))) ⌝ }
+{
+    number_of(generators::word_from(list))
+}

@@ -1,0 +1,7 @@
+pub mod Decimal
+pub mod Writing
+pub mod Lines
+pub mod Requests
+pub mod Pages
+pub mod Listings
+pub mod Cases

@@ -1,0 +1,70 @@
+-- What an input asks for, by its length: two digits and a line feed, one digit, which is as two, the first of which is 0, or other
+-- inputs, which are refused. Assumes nothing.
+use Prim.Native.Nat.{ℕ, _+_, _-_, _*_, _≤_}
+use mathlib.Core.Path.{_≡_, refl, _∙_, ap, ap₂}
+use mathlib.Core.Bool.{Bool, true, _&&_, and-true, and-eq-true-iff}
+use mathlib.Core.List.{List, [], _∷_}
+use native.Mathlib.Omega.{arith}
+use native.Mathlib.Decide.{decLt}
+use lib.Dec.{leb, eqb}
+use lib.ListN.{length, getD}
+use borrow.Author.Tests.{leb-true, eq-eqb}
+use lib.Seq.{length-take-le}
+use Rattle.words.specs.Lists.{every, lastOr}
+use Rattle.words.proofs.Booleans.{is-false}
+use Rattle.words.specs.Answers.{Answer, refused, given, ask}
+use Rattle.listing.specs.Decimal.{isDigit, valueAfter, value}
+use Rattle.listing.specs.Request.{allButLast, wellFormed, requestOf}
+
+-- the bytes of digits are from 48 to 57
+pub digit-range : (b : ℕ) → isDigit b ≡ true → (48 ≤ b) × (b ≤ 57)
+unfolding isDigit
+digit-range b e = let (low, high) = and-eq-true-iff (leb 48 b) (leb b 57) .0 e in (leb-true 48 b low, leb-true b 57 high)
+
+module _ (a b e : ℕ) where
+  abbrev genus : ℕ
+  genus = (a - 48) * 10 + (b - 48)
+
+  abbrev asked : Answer ℕ
+  asked = ask (leb genus 32) (refused 3) (given genus)
+
+  pub request-two : requestOf (a ∷ b ∷ e ∷ []) ≡ ask (isDigit a && isDigit b && eqb e 10) (refused 10) asked
+  unfolding requestOf wellFormed every lastOr valueAfter
+  request-two =
+      let same : value (a ∷ b ∷ []) ≡ genus = omega arith in
+      ap₂ (λ (t : Bool) (g : ℕ). ask (isDigit a && t && eqb e 10) (refused 10) (ask (leb g 32) (refused 3) (given g))) (and-true (isDigit b)) same
+
+  -- both digits and the line feed stand there
+  pub request-two-asked : isDigit a ≡ true → isDigit b ≡ true → e ≡ 10 → requestOf (a ∷ b ∷ e ∷ []) ≡ asked
+  request-two-asked p q r = request-two ∙ rw (p, q, eq-eqb e 10 r)
+
+-- 03 is 3
+pub request-one : (a e : ℕ) → requestOf (48 ∷ a ∷ e ∷ []) ≡ requestOf (a ∷ e ∷ [])
+unfolding requestOf wellFormed every lastOr isDigit valueAfter
+request-one a e = refl
+
+-- an input that is asked for a genus has two or three bytes
+pub request-none : (l : List ℕ) → (length l ≡ 2 → ⊥) → (length l ≡ 3 → ⊥) → requestOf l ≡ refused 10
+unfolding requestOf wellFormed
+request-none l two three =
+    rw
+    (is-false (wellFormed l) (λ t.
+    let digits : List ℕ = allButLast l in
+    let others = and-eq-true-iff (leb 1 (length digits) && leb (length digits) 2 && every isDigit digits) (eqb (lastOr 0 l) 10) .0 t .0 in
+    let (low, high) = and-eq-true-iff (leb 1 (length digits)) (leb (length digits) 2) .0 (and-eq-true-iff (leb 1 (length digits) && leb (length digits) 2) (every isDigit digits) .0 others .0) in
+    let many : length digits ≡ length l - 1 = length-take-le (length l - 1) l (omega arith) in
+    by-cases (length l) (omega (arith, leb-true 1 (length digits) low)) (omega (arith, leb-true (length digits) 2 high)) two three))
+  where
+    by-cases : (n : ℕ) → 2 ≤ n → n ≤ 3 → (n ≡ 2 → ⊥) → (n ≡ 3 → ⊥) → ⊥
+    by-cases n low high two three = elim (decLt 2 n) [ yes h ↦ three (omega arith) | no h ↦ two (omega arith) ]
+
+-- a list of two bytes, and one of three
+pub two-of : (l : List ℕ) → length l ≡ 2 → getD l 0 0 ∷ getD l 1 0 ∷ [] ≡ l
+two-of [] e = absurd (omega arith)
+two-of (a ∷ []) e = absurd (omega arith)
+two-of (a ∷ b ∷ []) e = refl
+two-of (a ∷ b ∷ x ∷ l) e = absurd (omega arith)
+
+pub three-of : (l : List ℕ) → length l ≡ 3 → getD l 0 0 ∷ getD l 1 0 ∷ getD l 2 0 ∷ [] ≡ l
+three-of [] e = absurd (omega arith)
+three-of (a ∷ l) e = ap (λ (t : List ℕ). a ∷ t) (two-of l (omega arith))

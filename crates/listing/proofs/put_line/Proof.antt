@@ -1,0 +1,69 @@
+-- `listing::put_line` meets its contract: the three fields are written one behind the other. Assumes nothing.
+use Prim.Native.Nat.{ℕ, _≤_}
+use mathlib.Core.Path.{sym}
+use native.Mathlib.Omega.{arith}
+use lib.ListN.{length}
+use borrow.Author.Needs.{needs}
+use Rattle.words.proofs.Operations.{conductor-le, multiplicity-le}
+use Rattle.listing.specs.Text.{blank, lineFeed, field}
+use Rattle.listing.proofs.Lines.{field-le, field-le-3, line-from}
+use Rattle.listing.proofs.Writing.{puts-as, puts-on}
+use Rattle.listing.proofs.put_line.Statement.{statement}
+use Rattle.listing.proofs.put_line.Tie as tie
+
+conductor-of-requires : tie.Need-conductor-of-requires
+conductor-of-requires c κs = search needs
+
+multiplicity-of-requires : tie.Need-multiplicity-of-requires
+multiplicity-of-requires c κs = search needs
+
+-- the fields have their places: the word one of 20 digits, the conductor and the multiplicity one of two
+short : (c : tie.After-multiplicity-of) (end : ℕ)
+    → (length (field (c .before .before .before .args .word) end) ≤ 21) × (length (field (c .before .conductor-of .result) end) ≤ 3) × (length (field (c .multiplicity-of .result) end) ≤ 3)
+short c end =
+    let word = c .before .before .before .args .word in
+    let fits = c .before .before .before .fits .word .fits in (
+      field-le word end 19 fits (omega arith),
+      field-le-3 (c .before .conductor-of .result) end (omega (arith, c .before .conductor-of .ensures, conductor-le word fits)),
+      field-le-3 (c .multiplicity-of .result) end (omega (arith, c .multiplicity-of .ensures, multiplicity-le word fits)),
+    )
+
+put-field-requires : tie.Need-put-field-requires
+put-field-requires c κs = omega (arith, short (c .before) blank)
+
+put-field-requires-2 : tie.Need-put-field-requires-2
+put-field-requires-2 c κs = let first = c .before .before .before .put-field in omega (arith, short (c .before .before .before .before .before) blank, first .ensures .next, first .kept .0)
+
+put-field-requires-3 : tie.Need-put-field-requires-3
+put-field-requires-3 c κs =
+    let first = c .before .before .before .before .before .before .before .put-field in
+    let second = c .before .before .before .put-field2 in
+    omega (
+      arith,
+      short (c .before .before .before .before .before .before .before .before .before) blank,
+      short (c .before .before .before .before .before .before .before .before .before) lineFeed,
+      first .ensures .next,
+      first .kept .0,
+      second .ensures .next,
+      second .kept .0,
+    )
+
+same-length : tie.Need-same-length
+same-length c = search needs
+
+returns : tie.Need-returns
+returns c =
+    puts-as (sym (line-from _ (c .before .before .before .before .before .before .before .before .before .before .before .before .before .conductor-of .ensures) (c .before .before .before .before .before .before .before .before .before .before .before .before .multiplicity-of .ensures)))
+    (puts-on (puts-on (c .before .before .before .before .before .before .before .before .before .before .put-field .ensures) (c .before .before .before .before .before .before .put-field2 .ensures)) (c .before .before .put-field3 .ensures))
+
+pub put-line-spec : {M : Type 1} → statement M
+put-line-spec =
+    tie.close
+    (tie.spec
+    conductor-of-requires
+    multiplicity-of-requires
+    put-field-requires
+    put-field-requires-2
+    put-field-requires-3
+    same-length
+    returns)

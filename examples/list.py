@@ -1,0 +1,62 @@
+"""Lists the semigroups of a genus with a walk that is put away after each batch and taken up again.  Usage: list.py LIBRARY GENUS"""
+import ctypes
+import json
+import sys
+
+u64 = ctypes.c_uint64
+
+
+class Number(ctypes.Structure):
+    _fields_ = [("refused", u64), ("value", u64)]
+
+
+class Report(ctypes.Structure):
+    _fields_ = [("refused", u64), ("genus", u64), ("multiplicity", u64), ("conductor", u64)]
+
+
+class Walk(ctypes.Structure):
+    _fields_ = [("genus", u64), ("word", u64), ("finished", ctypes.c_bool)]
+
+
+class Begun(ctypes.Structure):
+    _fields_ = [("refused", u64), ("walk", Walk)]
+
+
+class Moved(ctypes.Structure):
+    _fields_ = [("refused", u64), ("walk", Walk), ("count", ctypes.c_size_t), ("finished", ctypes.c_bool)]
+
+
+def opened(path):
+    atlas = ctypes.CDLL(path)
+    for name, result, arguments in [
+        ("atlas_fresh", Begun, [u64]),
+        ("atlas_count", Number, [u64, u64]),
+        ("atlas_look", Report, [u64]),
+        ("atlas_batch", Moved, [Walk, ctypes.POINTER(u64), ctypes.c_size_t]),
+    ]:
+        call = getattr(atlas, name)
+        call.restype, call.argtypes = result, arguments
+    return atlas
+
+
+def main(library, genus):
+    atlas = opened(library)
+    begun = atlas.atlas_fresh(genus)
+    if begun.refused:
+        print("refused", begun.refused)
+        return 1
+    print("genus", genus, "count", atlas.atlas_count(0, genus).value)
+    saved = json.dumps([begun.walk.genus, begun.walk.word, begun.walk.finished])
+    while True:
+        walk = Walk(*json.loads(saved))
+        words = (u64 * 3)()
+        moved = atlas.atlas_batch(walk, words, len(words))
+        for word in words[: moved.count]:
+            report = atlas.atlas_look(word)
+            print(word, report.conductor, report.multiplicity)
+        if moved.refused or moved.finished:
+            return int(moved.refused != 0)
+        saved = json.dumps([moved.walk.genus, moved.walk.word, moved.walk.finished])
+
+
+sys.exit(main(sys.argv[1], int(sys.argv[2])))

@@ -1,0 +1,99 @@
+/* The semigroup atlas: numerical semigroups of genus 0 to 32.
+
+   A gap word has 64 bits: bit i stands when i + 1 is a gap, and every number above 64 belongs to the set. A word is accepted when it
+   has at most 32 gaps and its set is closed under addition.
+
+   No call asks anything of its arguments, and every call returns. In each answer `refused` comes first: 0 for an answer, otherwise the
+   number of the refusal, and then all values are 0, no list is written and a walk comes back as it was given. A list is a pointer and a
+   length; a list of length 0 may have any pointer that is not null. Lists that are lent for writing must not be touched by others during
+   the call.
+
+   Refusals: 1 more than 32 gaps; 2 not closed under addition; 3 genus (of a child: one more than the word's) above 32; 4 a walk that is
+   neither finished with word 0 nor unfinished on an accepted word of its genus; 5 no generator, or below the conductor; 6 the lent list is
+   too short; 7 a given generator is 0; 8 the greatest common divisor of the given generators is not 1 (an empty list's is 0); 9 the given
+   generators leave more than 32 gaps.
+
+   Link with target/staticlib/libatlas.a, which `rt staticlib atlas` writes. */
+#ifndef ATLAS_H
+#define ATLAS_H
+
+#include <stdbool.h>
+#include <stddef.h>
+#include <stdint.h>
+
+#ifdef __cplusplus
+extern "C" {
+#endif
+
+/* A number, or a refusal. */
+typedef struct {
+  uint64_t refused;
+  uint64_t value;
+} atlas_number;
+
+/* What is told of an accepted word. The conductor is the largest gap plus 1, and 1 for the word 0. */
+typedef struct {
+  uint64_t refused;
+  uint64_t genus;
+  uint64_t multiplicity;
+  uint64_t conductor;
+} atlas_report;
+
+/* A walk over the semigroups of a genus, in list order: the next word, or 0 when finished. It holds nothing else, so it may be stored
+   and used again in another process. */
+typedef struct {
+  uint64_t genus;
+  uint64_t word;
+  bool finished;
+} atlas_walk;
+
+/* A walk that a call began. */
+typedef struct {
+  uint64_t refused;
+  atlas_walk walk;
+} atlas_begun;
+
+/* How a batch ended: the walk afterwards, the number of words written to the front of the list, and whether none are left. */
+typedef struct {
+  uint64_t refused;
+  atlas_walk walk;
+  size_t count;
+  bool finished;
+} atlas_moved;
+
+/* Genus, multiplicity and conductor of a word. Refusals 1, 2. */
+atlas_report atlas_look(uint64_t word);
+
+/* The seed table of a word: bit l is entry l of the joined rows, and the bits from the conductor up are clear. Refusals 1, 2. */
+atlas_number atlas_seed_table(uint64_t word);
+
+/* The word of the semigroup without `element`, a generator not below the conductor. Refusals 1, 2, 3, 5. */
+atlas_number atlas_child(uint64_t word, uint64_t element);
+
+/* A walk on the first semigroup of a genus. Refusal 3. */
+atlas_begun atlas_fresh(uint64_t genus);
+
+/* A walk of the word's genus on the word. Refusals 1, 2. */
+atlas_begun atlas_start(uint64_t word);
+
+/* Writes the next words to the front of `out`, as far as its length or the semigroups last; places after them are untouched. Go on with
+   the walk that comes back. Refusals 3, 4. */
+atlas_moved atlas_batch(atlas_walk walk, uint64_t *out, size_t length);
+
+/* The number of semigroups of a genus whose smallest gaps are exactly the word's; of word 0, the number of all. Refusals 1, 2, 3. */
+atlas_number atlas_count(uint64_t word, uint64_t genus);
+
+/* Writes the minimal generators of a word to the front of `out`, in rising order, and gives their number (at most 33). Refusals 1, 2, 6. */
+atlas_number atlas_generators(uint64_t word, uint8_t *out, size_t length);
+
+/* The word of all sums of the given generators; repeats and any order are allowed. Refusals 7, 8, 9. */
+atlas_number atlas_word_from(const uint8_t *list, size_t length);
+
+/* The number of semigroups of a genus whose largest gap is `frobenius`, below twice the multiplicity. Refusal 3. */
+atlas_number atlas_elementary(uint64_t frobenius, uint64_t genus);
+
+#ifdef __cplusplus
+}
+#endif
+
+#endif
