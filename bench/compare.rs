@@ -224,12 +224,17 @@ struct Words {
 }
 
 impl Words {
+    /// A semigroup of a genus below `genera`.
+    fn listed(&self, genera: u64, r: &mut Random) -> u64 {
+        let list = &self.lists[r.below(genera) as usize];
+        list[r.below(list.len() as u64) as usize]
+    }
+
     fn valid(&self, r: &mut Random) -> u64 {
         if r.below(2) == 0 {
             self.deep[r.below(self.deep.len() as u64) as usize]
         } else {
-            let list = &self.lists[r.below(self.lists.len() as u64) as usize];
-            list[r.below(list.len() as u64) as usize]
+            self.listed(self.lists.len() as u64, r)
         }
     }
 
@@ -406,13 +411,7 @@ fn rest(words: &Words, walk: Walk, most: usize) -> Vec<u64> {
 fn batches(n: u64, words: &Words, r: &mut Random) -> Kind {
     let mut kind = Kind::new("batch");
     for i in 0..n {
-        let word = if i % 50 == 0 { words.any(r) } else { words.lists[r.below(14) as usize].clone()[0] };
-        let word = if i % 50 != 0 && r.below(4) != 0 {
-            let list = &words.lists[gaps(word).len()];
-            list[r.below(list.len() as u64) as usize]
-        } else {
-            word
-        };
+        let word = if i % 50 == 0 { words.any(r) } else { words.listed(14, r) };
         let walk = match r.below(12) {
             0 => Walk {
                 genus: r.below(50),
@@ -479,7 +478,7 @@ fn batches(n: u64, words: &Words, r: &mut Random) -> Kind {
 fn counts(n: u64, words: &Words, r: &mut Random) -> Kind {
     let mut kind = Kind::new("count");
     for _ in 0..n {
-        let w = if r.below(4) == 0 { words.any(r) } else { words.lists[r.below(12) as usize][0] };
+        let w = if r.below(4) == 0 { words.any(r) } else { words.listed(12, r) };
         let g = if r.below(8) == 0 { r.next() } else { r.below(16) };
         let plain = if let Some(q) = word_refused(w) {
             refused(q)
