@@ -137,13 +137,10 @@ pub fn node_of(word: u64) -> NodeAnswer
 pub fn seed_table(word: u64) -> NumberAnswer
     ensures { λ r. ⌜ answered r ≡ tableOf word ⌝ }
 {
-    let answer = words::look(word);
+    let answer = node_of(word);
     match answer {
-        LookAnswer::Refused(r) => NumberAnswer::Refused(r),
-        LookAnswer::Given(_) => {
-            let n = reached(word);
-            NumberAnswer::Given(n.table)
-        }
+        NodeAnswer::Refused(r) => NumberAnswer::Refused(r),
+        NodeAnswer::Given(n) => NumberAnswer::Given(n.table),
     }
 }
 
