@@ -14,7 +14,21 @@ uint64_t plain_walk(unsigned genus, uint64_t *words, size_t length, uint64_t *mi
 enum { LENGTH = 4096, RUNS = 5 };
 static uint64_t words[LENGTH];
 
-static uint64_t our_count(unsigned genus) { return atlas_count(0, genus).value; }
+/* The counts with the parameters of a walk, of which they need the genus alone. */
+static uint64_t our_counted(unsigned genus, uint64_t *out, size_t length, uint64_t *mixed) {
+  (void)out, (void)length, *mixed = 0;
+  return atlas_count(0, genus).value;
+}
+
+static uint64_t paper_counted(unsigned genus, uint64_t *out, size_t length, uint64_t *mixed) {
+  (void)out, (void)length, *mixed = 0;
+  return paper_count(genus);
+}
+
+static uint64_t plain_counted(unsigned genus, uint64_t *out, size_t length, uint64_t *mixed) {
+  (void)out, (void)length, *mixed = 0;
+  return plain_count(genus);
+}
 
 static uint64_t our_walk(unsigned genus, uint64_t *out, size_t length, uint64_t *mixed) {
   uint64_t total = 0, mix = 0;
@@ -36,21 +50,10 @@ static double now(void) {
   return t.tv_sec + t.tv_nsec * 1e-9;
 }
 
-typedef uint64_t counter(unsigned);
-typedef uint64_t walker(unsigned, uint64_t *, size_t, uint64_t *);
+typedef uint64_t work(unsigned, uint64_t *, size_t, uint64_t *);
 
-static double time_count(counter *f, unsigned genus, uint64_t *result) {
-  double best = 1e9;
-  for (int i = 0; i < RUNS; i++) {
-    double start = now();
-    *result = f(genus);
-    double taken = now() - start;
-    if (taken < best) best = taken;
-  }
-  return best;
-}
-
-static double time_walk(walker *f, unsigned genus, size_t length, uint64_t *result, uint64_t *mixed) {
+/* The least time of several runs. */
+static double time_of(work *f, unsigned genus, size_t length, uint64_t *result, uint64_t *mixed) {
   double best = 1e9;
   for (int i = 0; i < RUNS; i++) {
     double start = now();
@@ -61,28 +64,26 @@ static double time_walk(walker *f, unsigned genus, size_t length, uint64_t *resu
   return best;
 }
 
-static void differ(const char *what, unsigned genus) {
-  fprintf(stderr, "results differ: %s of genus %u\n", what, genus);
-  exit(1);
+/* One row of the table: the same work by the three, with the same results. */
+static void row(const char *name, unsigned genus, work *ours, work *paper, work *plain) {
+  uint64_t a, b, c, x, y, z;
+  double o = time_of(ours, genus, LENGTH, &a, &x), p = time_of(paper, genus, LENGTH, &b, &y), r = time_of(plain, genus, LENGTH, &c, &z);
+  if (a != b || a != c || x != y || x != z) {
+    fprintf(stderr, "results differ: %s of genus %u\n", name, genus);
+    exit(1);
+  }
+  printf("%-7u %-6s %12" PRIu64 " %10.2f %10.2f %10.2f %9.2f %9.2f\n", genus, name, a, o * 1e3, p * 1e3, r * 1e3, o / p, o / r);
 }
 
 int main(void) {
   static const unsigned genera[] = {24, 28, 32};
   printf("%-7s %-6s %12s %10s %10s %10s %9s %9s\n", "genus", "work", "semigroups", "ours ms", "paper ms", "Rust ms", "to paper", "to Rust");
   for (int i = 0; i < 3; i++) {
-    unsigned g = genera[i];
-    uint64_t a, b, c, x, y, z;
-    double ours = time_count(our_count, g, &a), paper = time_count(paper_count, g, &b), plain = time_count(plain_count, g, &c);
-    if (a != b || a != c) differ("count", g);
-    printf("%-7u %-6s %12" PRIu64 " %10.2f %10.2f %10.2f %9.2f %9.2f\n", g, "count", a, ours * 1e3, paper * 1e3, plain * 1e3, ours / paper, ours / plain);
-    ours = time_walk(our_walk, g, LENGTH, &a, &x);
-    paper = time_walk(paper_walk, g, LENGTH, &b, &y);
-    plain = time_walk(plain_walk, g, LENGTH, &c, &z);
-    if (a != b || a != c || x != y || x != z) differ("walk", g);
-    printf("%-7u %-6s %12" PRIu64 " %10.2f %10.2f %10.2f %9.2f %9.2f\n", g, "walk", a, ours * 1e3, paper * 1e3, plain * 1e3, ours / paper, ours / plain);
+    row("count", genera[i], our_counted, paper_counted, plain_counted);
+    row("walk", genera[i], our_walk, paper_walk, plain_walk);
   }
   uint64_t total, mixed;
-  double single = time_walk(our_walk, 20, 1, &total, &mixed);
+  double single = time_of(our_walk, 20, 1, &total, &mixed);
   printf("a batch of length 1 at genus 20: %.0f ns\n", single / (double)total * 1e9);
   return 0;
 }

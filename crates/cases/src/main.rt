@@ -1,5 +1,6 @@
-// Runs further cases of the papers and prints what the calls answer; what it prints is held to the stored file, which was worked out by
-// hand from the papers. The marked cases are proved: proofs/Marked.antt.
+// Runs further cases of the papers and prints what the calls answer. What it prints is held to the stored file: the tables of the
+// descendants of example 1.4 worked by hand by lemma 3.1, the totals as published in A007323, the rest computed apart from the plain
+// definitions. The marked cases are proved: proofs/Marked.antt.
 use libc::STDOUT_FILENO;
 use walk::BatchAnswer;
 use walk::Walk;
