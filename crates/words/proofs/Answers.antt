@@ -13,7 +13,7 @@ use Rattle.words.specs.Words.{setOf, genus, closed}
 use Rattle.words.specs.declared.Refusal.{Refusal}
 use Rattle.words.specs.declared.Refusal.the-variants.{TooManyGaps, NotClosed, GenusTooLarge, WalkOutOfOrder, NotAGenerator, ListTooShort, ZeroGenerator, CommonDivisor, TooManyGapsGenerated, MalformedInput}
 use Rattle.words.specs.declared.Report.{Report}
-use Rattle.words.specs.Answers.{refused, given, numberOf, ask, askWord, reportOf, lookOf}
+use Rattle.words.specs.Answers.{Accepted, refused, given, numberOf, ask, askWord, reportOf, lookOf}
 use Rattle.words.proofs.Closure.{closed-iff}
 
 -- ---- numbers of refusals
@@ -59,15 +59,10 @@ number-range MalformedInput = omega arith
 
 -- ---- accepted words
 
--- the word is accepted: its set is closed under addition, and it has at most 32 gaps
-pub record Accepted (w : ℕ) : Type 0 where
-  pub sums : closed w ≡ true
-  pub few : genus w ≤ 32
-
 -- an accepted word is not refused
 pub asked : {A : Type 0} (refuse : ℕ → A) (w : ℕ) (answer : A) → Accepted w → askWord refuse w answer ≡ answer
 unfolding askWord
-asked refuse w answer h = simp (le-leb (genus w) 32 (h .few), h .sums)
+asked refuse w answer h = simp (le-leb (genus w) 32 (h .few), h .closed)
 
 -- what the answer of one call on a word, which gives this value, tells another
 module _ {B : Type 0} (w : ℕ) (value : B) where
@@ -89,7 +84,7 @@ module _ {B : Type 0} (w : ℕ) (value : B) where
     where
       by-questions : (few : Bool) → leb (genus w) 32 ≡ few → (sums : Bool) → closed w ≡ sums
           → ask few (refused 1) (ask sums (refused 2) (given value)) ≡ given r → Accepted w × (r ≡ value)
-      by-questions true p true q e = let same : r ≡ value = cc in (record { sums = q; few = leb-true (genus w) 32 p }, same)
+      by-questions true p true q e = let same : r ≡ value = cc in (record { closed = q; few = leb-true (genus w) 32 p }, same)
       by-questions true p false q e = let z : _≡_ {A = ℕ} 0 1 = cc in absurd (omega arith)
       by-questions false p sums q e = let z : _≡_ {A = ℕ} 0 1 = cc in absurd (omega arith)
 
@@ -106,6 +101,6 @@ look-given w r e = word-given w (reportOf w) r e
 pub accepted-iff : (w : ℕ) → w < 2 ^ 64 → (lookOf w ≡ given (reportOf w)) ↔ (ClosedUnderAddition (setOf w) × (genus w ≤ 32))
 unfolding lookOf
 accepted-iff w fits = (
-  λ e. let h = look-given w (reportOf w) e .0 in (closed-iff w fits .0 (h .sums), h .few),
-  λ (s, few). asked refused w (given (reportOf w)) record { sums = closed-iff w fits .1 s; few = few },
+  λ e. let h = look-given w (reportOf w) e .0 in (closed-iff w fits .0 (h .closed), h .few),
+  λ (s, few). asked refused w (given (reportOf w)) record { closed = closed-iff w fits .1 s; few = few },
 )

@@ -13,6 +13,7 @@ use borrow.Author.Tests.{not-true, not-false}
 use Rattle.words.specs.Sets.{Set, without, sumOfTwo, ClosedUnderAddition, NumericalSemigroup, GapsOf}
 use Rattle.words.specs.Words.{bit, setOf, gaps, genus, largestGap, conductor, closed, childWord, parentWord}
 use Rattle.words.specs.Elements.{generator, rightGenerators}
+use Rattle.words.specs.Children.{Child, Parent}
 use Rattle.words.proofs.Booleans.{not-both, is-false}
 use Rattle.words.proofs.Lists.{ordered-one, ordered-append}
 use Rattle.words.proofs.Bits.{bit-cleared}
@@ -85,16 +86,6 @@ module _ (w e : ℕ) (fits : w < 2 ^ 64) (high : conductor w ≤ e) where
     pub generator-le-63 : genus w ≤ 31 → e ≤ 63
     generator-le-63 h = omega (arith, generator-bound)
 
--- what is known of the child at x
-pub record Child (w x : ℕ) : Type 0 where
-  pub high : conductor w ≤ x
-  pub low : x ≤ 63
-  pub fits : childWord w x < 2 ^ 64
-  pub sums : closed (childWord w x) ≡ true
-  pub new-gaps : gaps (childWord w x) ≡ gaps w ++ x ∷ []
-  pub new-genus : genus (childWord w x) ≡ suc (genus w)
-  pub new-conductor : conductor (childWord w x) ≡ suc x
-
 -- a closed word of genus 31 at most has a child at each right generator
 pub child-at : (w x : ℕ) → w < 2 ^ 64 → closed w ≡ true → genus w ≤ 31 → List·Memᴰ x (rightGenerators w) → Child w x
 child-at w x fits c h m =
@@ -105,21 +96,13 @@ child-at w x fits c h m =
       high = high;
       low = low;
       fits = fits′;
-      sums = child-closed w x fits high c g fits′;
+      closed = child-closed w x fits high c g fits′;
       new-gaps = child-gaps w x fits high fits′;
       new-genus = child-genus w x fits high fits′;
       new-conductor = child-conductor w x fits high fits′;
     }
 
 -- ---- parents
-
--- v is a parent of w: a closed word from which w comes without the generator e, which is not below the conductor of v
-pub record Parent (w v e : ℕ) : Type 0 where
-  pub fits : v < 2 ^ 64
-  pub sums : closed v ≡ true
-  pub high : conductor v ≤ e
-  pub generates : generator v e ≡ true
-  pub child : childWord v e ≡ w
 
 module _ (w : ℕ) (fits : w < 2 ^ 64) where
   -- a parent is known: the element that was removed is the largest gap
@@ -191,7 +174,7 @@ module _ (w : ℕ) (fits : w < 2 ^ 64) where
 
     -- each closed word but 0 has a parent
     pub parent : Parent w (parentWord w) (largestGap w)
-    parent = record { fits = parent-fits; sums = parent-closed; high = parent-conductor; generates = parent-generates; child = child-of-parent }
+    parent = record { fits = parent-fits; closed = parent-closed; high = parent-conductor; generates = parent-generates; child = child-of-parent }
 
     -- and just one
     pub parent-iff : (u e : ℕ) → Parent w u e ↔ ((u ≡ parentWord w) × (e ≡ largestGap w))

@@ -49,7 +49,7 @@ mem-risings (suc r) lo (x ∷ l) c =
 -- a word of 64 bits whose set is closed, with g gaps
 pub record WordOfGenus (g w : ℕ) : Type 0 where
   pub fits : w < 2 ^ 64
-  pub sums : closed w ≡ true
+  pub closed : closed w ≡ true
   pub gapped : genus w ≡ g
 
 -- the list holds just these words
@@ -61,7 +61,7 @@ genus-list-mem g {w} m =
     let h = risings-mem g 1 i in
     record {
       fits = subst (λ (v : ℕ). v < 2 ^ 64) e (word-lt l (h .0));
-      sums = c;
+      closed = c;
       gapped = subst (λ (v : ℕ). length (gaps v) ≡ g) e (ap length (gaps-of-word l (h .0)) ∙ h .1);
     }
 
@@ -70,20 +70,20 @@ unfolding genusList genus
 mem-genus-list g w h =
     mem-keep closed (map wordOf (risings g 1))
     (Memᴰ·cast (sym (word-of-gaps w (h .fits))) (Memᴰ·map wordOf (mem-risings g 1 (gaps w) (gaps-list w, h .gapped))))
-    (h .sums)
+    (h .closed)
 
 -- each word of the list is a 64-bit word of a numerical semigroup of genus g
 pub genus-list-sound : (g : ℕ) {w : ℕ} → List·Memᴰ w (genusList g) → (w < 2 ^ 64) × NumericalSemigroup (setOf w) × HasGenus (setOf w) g
 genus-list-sound g {w} m =
     let h = genus-list-mem g m in
-    (h .fits, closed-semigroup w (h .fits) (h .sums), subst (HasGenus (setOf w)) (h .gapped) (word-genus w (h .fits)))
+    (h .fits, closed-semigroup w (h .fits) (h .closed), subst (HasGenus (setOf w)) (h .gapped) (word-genus w (h .fits)))
 
 -- each 64-bit word of a numerical semigroup of genus g is in the list
 pub genus-list-word : (g w : ℕ) → w < 2 ^ 64 → NumericalSemigroup (setOf w) → HasGenus (setOf w) g → List·Memᴰ w (genusList g)
 unfolding genus
 genus-list-word g w h s (l, o, e) = mem-genus-list g w record {
   fits = h;
-  sums = closed-iff w h .1 (s .closed);
+  closed = closed-iff w h .1 (s .closed);
   gapped = ap length (gaps-unique (setOf w) (gaps w) l (gaps-of w h) o) ∙ e;
 }
 

@@ -1,5 +1,5 @@
 -- Laws of `run`, `keep`, `every`, `joined`, `begins` and rising lists: what they hold, in which order, and how many. Assumes nothing.
-use Prim.Native.Nat.{ℕ, zero, suc, _+_, _-_, _*_, _^_, _≤_, _<_}
+use Prim.Native.Nat.{ℕ, zero, suc, _+_, _-_, _*_, _^_, _≤_, _<_, min}
 use mathlib.Core.Path.{_≡_, refl, sym, _∙_, ap, ap₂, subst}
 use mathlib.Core.Logic.{_⊎_, inl, inr, _↔_, ⊎-elim}
 use mathlib.Core.Bool.{Bool, true, false, _&&_, and-assoc, and-eq-true-iff, not, _||_, and-true, Bool·not-not}
@@ -8,11 +8,11 @@ use native.Mathlib.Omega.{arith}
 use native.Mathlib.Nat.{add-zero, zero-add, suc-add, add-suc, eq-or-lt-of-le, le-of-eq, le-trans, le-of-lt, le-dest, pow-suc, suc-mul}
 use native.Mathlib.Numerals.{add-one}
 use lib.Dec.{eqb}
-use lib.ListN.{length, getD, take, drop, set, length-append, take-append-drop}
+use lib.ListN.{length, getD, take, drop, set, replicate, length-append, length-take, length-drop, take-append-drop}
 use lib.Pow.{pow-mono}
-use lib.Seq.{take-append-seam, drop-cons, take-suc, sets}
+use lib.Seq.{take-append-seam, drop-append-seam, set-append-seam, drop-cons, drop-append-add, drop-drop, take-suc, sets}
 use borrow.Author.Tests.{eq-eqb, ne-eqb, eqb-true}
-use Rattle.words.specs.Lists.{run, keep, keepIf, every, joined, sumOver, lastOr, begins, onFrom, Ordered}
+use Rattle.words.specs.Lists.{run, keep, keepIf, every, joined, sumOver, lastOr, begins, fronted, onFrom, Ordered}
 use Rattle.words.proofs.Booleans.{not-both, by-value, not-and}
 
 -- ---- run
@@ -406,6 +406,14 @@ mem-split (y ∷ l) (List·Memᴰ·tail m) = let (k, t, e) = mem-split l m in (y
 pub end-drop : {A : Type 0} (i : ℕ) (k l : List A) {whole : List A} → k ++ l ≡ whole → (k ++ take i l) ++ drop i l ≡ whole
 end-drop i k l e = append-assoc k (take i l) (drop i l) ∙ ap (λ (t : List _). k ++ t) (take-append-drop i l) ∙ e
 
+-- a list with the default value behind it has the same entries
+pub getD-append-default : {A : Type 0} (l : List A) (n i : ℕ) (d : A) → getD (l ++ replicate n d) i d ≡ getD l i d
+getD-append-default [] zero i d = refl
+getD-append-default [] (suc n) zero d = refl
+getD-append-default [] (suc n) (suc i) d = getD-append-default [] n i d
+getD-append-default (x ∷ l) n zero d = refl
+getD-append-default (x ∷ l) n (suc i) d = getD-append-default l n i d
+
 -- in a list ordered by R, which nothing has to itself, from x on there is x and what follows it
 pub on-from : (R : ℕ → ℕ → Type 0) → ((x : ℕ) → R x x → ⊥) → (k l : List ℕ) (x : ℕ) → Ordered R (k ++ x ∷ l) → onFrom x (k ++ x ∷ l) ≡ x ∷ l
 unfolding onFrom Ordered
@@ -524,3 +532,49 @@ sets-append l i [] t = ap (λ (j : ℕ). sets l j t) (sym (add-zero i))
 sets-append l i (x ∷ s) t =
     let place : suc i + length s ≡ i + suc (length s) = omega arith in
     sets-append (set l i x) (suc i) s t ∙ ap (λ (j : ℕ). sets (sets (set l i x) (suc i) s) j t) place
+
+-- ---- numbers written in front of a list
+
+module _ (l out : List ℕ) where
+  -- the length stays
+  pub fronted-length : length l ≤ length out → length (fronted l out) ≡ length out
+  unfolding fronted
+  fronted-length h = simp (length-append, length-drop) (omega arith)
+
+  -- one number more
+  pub fronted-set : (x : ℕ) → length l < length out → set (fronted l out) (length l) x ≡ fronted (l ++ x ∷ []) out
+  unfolding fronted
+  fronted-set x h =
+      ap (λ (r : List ℕ). set (l ++ r) (length l) x) (drop-cons out (length l) 0 h)
+      ∙ set-append-seam l (getD out (length l) 0) (drop (suc (length l)) out) x
+      ∙ sym (append-assoc l (x ∷ []) (drop (length (l ++ x ∷ [])) out) ∙ ap (λ (k : ℕ). l ++ x ∷ drop k out) (length-append l (x ∷ []) ∙ add-one (length l)))
+
+  -- what is written is in front
+  pub fronted-front : take (length l) (fronted l out) ≡ l
+  unfolding fronted
+  fronted-front = take-append-seam l (drop (length l) out)
+
+  -- the places after it are untouched
+  pub fronted-rest : drop (length l) (fronted l out) ≡ drop (length l) out
+  unfolding fronted
+  fronted-rest = drop-append-seam l (drop (length l) out)
+
+  -- written on after l
+  pub fronted-on : (k : List ℕ) → fronted (l ++ k) (fronted l out) ≡ fronted (l ++ k) out
+  unfolding fronted
+  fronted-on k =
+      ap (λ (r : List ℕ). (l ++ k) ++ r)
+      (ap (λ (n : ℕ). drop n (l ++ drop (length l) out)) (length-append l k) ∙ drop-append-add l (drop (length l) out) (length k)
+      ∙ drop-drop (length k) (length l) out ∙ ap (λ (n : ℕ). drop n out) (sym (length-append l k)))
+
+  -- written on from the place after l
+  pub fronted-twice : (k next : List ℕ) (at : ℕ) → at ≡ length l → next ≡ fronted l out → fronted (take at next ++ k) next ≡ fronted (l ++ k) out
+  fronted-twice k next at p q =
+      ap₂ (λ (n : ℕ) (o : List ℕ). fronted (take n o ++ k) o) p q ∙ ap (λ (m : List ℕ). fronted (m ++ k) (fronted l out)) fronted-front ∙ fronted-on k
+
+-- the front of the list itself
+pub fronted-self : (out : List ℕ) (n : ℕ) → n ≤ length out → fronted (take n out) out ≡ out
+unfolding fronted
+fronted-self out n h =
+    let short : min n (length out) ≡ n = omega arith in
+    ap (λ (k : ℕ). take n out ++ drop k out) (length-take n out ∙ short) ∙ take-append-drop n out

@@ -1,7 +1,8 @@
 -- What the calls answer, by the numbers of the papers: a refusal by the number of its question, or the values that are asked for; the
 -- questions that each call on a word puts first; and a look at a word. Assumes nothing: these are definitions.
-use Prim.Native.Nat.{ℕ}
-use mathlib.Core.Bool.{Bool, cond}
+use Prim.Native.Nat.{ℕ, _≤_}
+use mathlib.Core.Path.{_≡_}
+use mathlib.Core.Bool.{Bool, true, cond}
 use lib.Dec.{leb}
 use Rattle.words.specs.Words.{genus, conductor, closed}
 use Rattle.words.specs.Elements.{multiplicity}
@@ -43,6 +44,11 @@ ask question no-answer answer = cond question answer no-answer
 -- questions 1 and 2: has the word at most 32 gaps, and is its set closed under addition
 unfoldable pub askWord : {A : Type 0} → (ℕ → A) → ℕ → A → A
 askWord refuse w answer = ask (leb (genus w) 32) (refuse 1) (ask (closed w) (refuse 2) answer)
+
+-- the word is accepted: its set is closed under addition, and it has at most 32 gaps
+pub record Accepted (w : ℕ) : Type 0 where
+  pub closed : closed w ≡ true
+  pub few : genus w ≤ 32
 
 -- ---- a look at a word
 

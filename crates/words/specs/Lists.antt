@@ -3,6 +3,7 @@ use Prim.Native.Nat.{ℕ, zero, suc, _+_}
 use mathlib.Core.Bool.{Bool, true, false, cond, _&&_}
 use mathlib.Core.List.{List, [], _∷_, _++_, List·Memᴰ}
 use lib.Dec.{eqb}
+use lib.ListN.{length, drop}
 
 -- n numbers in a row, from a on
 unfoldable pub run : ℕ → ℕ → List ℕ
@@ -45,6 +46,10 @@ unfoldable pub begins : List ℕ → List ℕ → Bool
 begins [] l = true
 begins (x ∷ k) [] = false
 begins (x ∷ k) (y ∷ l) = eqb x y && begins k l
+
+-- a list with the numbers of l written in front: the places after them are untouched
+unfoldable pub fronted : List ℕ → List ℕ → List ℕ
+fronted l lent = l ++ drop (length l) lent
 
 -- l from its first x on
 unfoldable pub onFrom : ℕ → List ℕ → List ℕ
