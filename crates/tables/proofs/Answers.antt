@@ -1,5 +1,5 @@
 -- The answer to the question for a child, by the node of the word. Assumes nothing.
-use Prim.Native.Nat.{ℕ, _+_, _-_, _^_, _≤_, _<_}
+use Prim.Native.Nat.{ℕ, _+_, _-_, _≤_, _<_}
 use mathlib.Core.Path.{_≡_, sym, ap, ap₂, _∙_}
 use mathlib.Core.Bool.{Bool, true, false, _&&_}
 use native.Mathlib.Omega.{arith}
@@ -8,13 +8,15 @@ use lib.Dec.{leb}
 use borrow.Author.Tests.{le-leb, lt-leb}
 use Rattle.words.specs.Words.{bit, genus, conductor, closed, childWord}
 use Rattle.words.specs.Elements.{generator}
-use Rattle.words.specs.Answers.{refused, given, ask}
-use Rattle.words.proofs.Answers.{Accepted, asked}
+use Rattle.words.specs.Answers.{refused, given, ask, Accepted}
+use Rattle.words.proofs.Answers.{asked}
 use Rattle.words.proofs.Elements.{conductor-pos, mem-right-generators}
 use Rattle.tables.specs.Nodes.{nodeOf, childNode, firstRow}
+use Rattle.tables.specs.Levels.{NodeWithLevels}
 use Rattle.tables.specs.declared.Node.{Node}
 use Rattle.tables.specs.Answers.{childOf}
 use Rattle.tables.proofs.Nodes.{node-child}
+use Rattle.tables.proofs.Levels.{node-conductor}
 use Rattle.tables.proofs.FirstRow.{row-bit}
 
 -- an accepted word of genus 32 is refused a child
@@ -22,25 +24,17 @@ pub no-child : (w e : ℕ) → Accepted w → 31 < genus w → childOf w e ≡ r
 unfolding childOf
 no-child w e h full = asked refused w _ h ∙ simp (lt-leb (genus w + 1) 32 (omega arith))
 
--- n is the node of a closed word of genus below 32
-pub record NodeBelow32 (n : Node) : Type 0 where
-  pub node : n ≡ nodeOf (n .word)
-  pub fits : n .word < 2 ^ 64
-  pub sums : closed (n .word) ≡ true
-  pub few : genus (n .word) ≤ 31
-
-module _ (n : Node) (e : ℕ) (h : NodeBelow32 n) where
+module _ (n : Node) (e : ℕ) (h : NodeWithLevels 1 n) where
   abbrev w : ℕ
   w = n .word
 
   -- question 5
   asked-five : (b : Bool) → (leb (conductor w) e && generator w e) ≡ b → childOf (n .word) e ≡ ask b (refused 5) (given (childWord w e))
   unfolding childOf
-  asked-five b t = asked refused w _ (record { sums = h .sums; few = omega arith }) ∙ simp (le-leb (genus w + 1) 32 (omega arith), t)
+  asked-five b t = asked refused w _ (record { closed = h .levels .closed; few = omega (arith, h .levels .few) }) ∙ simp (le-leb (genus w + 1) 32 (h .levels .few), t)
 
   same-conductor : n .conductor ≡ conductor w
-  unfolding nodeOf
-  same-conductor = ap (λ (k : Node). k .conductor) (h .node)
+  same-conductor = node-conductor 1 n h
 
   pub positive-conductor : 0 < n .conductor
   positive-conductor = omega (arith, same-conductor, conductor-pos w)
@@ -52,7 +46,7 @@ module _ (n : Node) (e : ℕ) (h : NodeBelow32 n) where
   module _ (d : ℕ) (offset : d ≡ e - n .conductor) where
     generates : bit (firstRow n) d ≡ generator w (conductor w + d)
     unfolding nodeOf firstRow
-    generates = ap (λ (k : Node). bit (firstRow k) d) (h .node) ∙ row-bit w (h .fits) d
+    generates = ap (λ (k : Node). bit (firstRow k) d) (h .node) ∙ row-bit w (h .levels .fits) d
 
     -- of an element not below it, the first row tells whether it is a generator
     by-row : (b : Bool) → n .conductor ≤ e → bit (firstRow n) d ≡ b → (leb (conductor w) e && generator w e) ≡ b
@@ -69,6 +63,6 @@ module _ (n : Node) (e : ℕ) (h : NodeBelow32 n) where
     unfolding nodeOf
     given-there high t =
         let there : e ≡ conductor w + d = omega (arith, same-conductor) in
-        let member = mem-right-generators w (h .fits) (conductor w + d) (omega arith) (sym generates ∙ t) in
-        let child = ap (λ (k : Node). childNode k d) (h .node) ∙ node-child w (h .fits) d (h .sums) (h .few) member in
+        let member = mem-right-generators w (h .levels .fits) (conductor w + d) (omega arith) (sym generates ∙ t) in
+        let child = ap (λ (k : Node). childNode k d) (h .node) ∙ node-child w (h .levels .fits) d (h .levels .closed) (omega (arith, h .levels .few)) member in
         asked-five true (by-row true high t) ∙ ap (λ (x : ℕ). given (childWord w x)) there ∙ ap (λ (k : Node). given (k .word)) (sym child)

@@ -4,10 +4,11 @@ use mathlib.Core.Path.{_≡_, refl}
 use mathlib.Core.List.{[], _∷_, map}
 use Rattle.words.specs.Lists.{run, keep, keepIf, every, joined, lastOr}
 use Rattle.words.specs.Sets.{sumOfTwo}
-use Rattle.words.specs.Words.{bit, setOf, gaps, genus, digit, largestGap, conductor, closed, childWord}
+use Rattle.words.specs.Words.{bit, setOf, gaps, genus, digit, largestGap, conductor, closed, childWord, ofBits}
 use Rattle.words.specs.Elements.{elementsBelow, elementAt, generator}
 use Rattle.words.specs.Answers.{refused, given, askWord}
-use Rattle.tables.specs.Seeds.{leftAfter, seed, row, seedBits, ofBits, seedTable}
+use Rattle.tables.specs.Seeds.{leftAfter, seed, row, seedBits, seedTable}
+use Rattle.tables.specs.Child.{struck, struckBits, padded, lastThreeSet, childBits}
 use Rattle.tables.specs.Nodes.{nodeOf}
 use Rattle.tables.specs.Answers.{nodeAnswer, tableOf, childOf}
 
@@ -16,6 +17,11 @@ pub known-tables : map tableOf (0 ∷ 1 ∷ 5 ∷ 111 ∷ 91 ∷ 13 ∷ 85899345
     ≡ given 1 ∷ given 3 ∷ given 14 ∷ given 251 ∷ given 237 ∷ refused 2 ∷ refused 1 ∷ []
 unfolding run keep keepIf every joined bit setOf gaps genus lastOr largestGap conductor closed elementsBelow elementAt sumOfTwo leftAfter seed row seedBits digit ofBits seedTable askWord tableOf
 known-tables = refl
+
+-- the tables of the four children of the word 111, example 1.4 of source 000, by rows
+pub known-child-bits : map (λ d. ofBits (childBits 111 d)) (0 ∷ 1 ∷ 3 ∷ 4 ∷ []) ≡ 509 ∷ 950 ∷ 3585 ∷ 7168 ∷ []
+unfolding run keep keepIf every joined bit setOf gaps genus lastOr largestGap conductor elementsBelow elementAt sumOfTwo leftAfter seed row digit ofBits struck struckBits padded lastThreeSet childBits
+known-child-bits = refl
 
 -- the nodes of the words 91 and 13
 pub known-nodes : map nodeAnswer (91 ∷ 13 ∷ []) ≡ given (record { word = 91; table = 237; conductor = 8 }) ∷ refused 2 ∷ []

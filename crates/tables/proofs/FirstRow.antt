@@ -16,7 +16,7 @@ use Rattle.words.proofs.StandingBits.{positions-mem, mem-positions, positions-o
 use Rattle.words.proofs.Elements.{multiplicity-le-conductor, generator-offset, right-generators-mem, mem-right-generators, right-generators-ordered}
 use Rattle.words.proofs.Closure.{conductor-le-64}
 use Rattle.tables.specs.Seeds.{seedTable}
-use Rattle.tables.proofs.Seeds.{first-row}
+use Rattle.tables.proofs.Seeds.{row-0-generator}
 
 module _ (w : ℕ) (fits : w < 2 ^ 64) where
   -- the first row as a number
@@ -26,7 +26,7 @@ module _ (w : ℕ) (fits : w < 2 ^ 64) where
   -- its bit d tells whether the conductor plus d is a generator
   pub row-bit : (d : ℕ) → bit (seedTable w % 2 ^ multiplicity w) d ≡ generator w (conductor w + d)
   row-bit d = elim (decLt d (multiplicity w)) [
-    | yes h ↦ bit-mod (seedTable w) (multiplicity w) d h ∙ first-row w fits d h
+    | yes h ↦ bit-mod (seedTable w) (multiplicity w) d h ∙ row-0-generator w fits d h
     | no h ↦ bit-past row (multiplicity w) d (mod-lt (seedTable w) (pow-pos (multiplicity w))) (omega arith)
         ∙ sym (is-false (generator w (conductor w + d)) (λ g. h (generator-offset w fits d g)))
   ]

@@ -2,7 +2,9 @@ pub mod Seeds
 pub mod FirstRow
 pub mod Raking
 pub mod ChildTable
+pub mod ChildRows
 pub mod Nodes
+pub mod Levels
 pub mod Way
 pub mod Answers
 pub mod Cases

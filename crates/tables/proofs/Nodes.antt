@@ -17,7 +17,7 @@ use lib.Count.{trailingZeros}
 use borrow.Author.Tests.{eq-eqb, ne-eqb, lt-ltb, le-ltb, leb-true, le-leb, not-true}
 use Rattle.words.specs.Lists.{run, keep, keepIf, every, joined, lastOr}
 use Rattle.words.specs.Sets.{sumOfTwo}
-use Rattle.words.specs.Words.{bit, digit, positions, setOf, gaps, genus, largestGap, conductor, closed, childWord}
+use Rattle.words.specs.Words.{bit, digit, positions, setOf, gaps, genus, largestGap, conductor, closed, childWord, ofBits}
 use Rattle.words.specs.Elements.{elementsBelow, elementAt, rightGenerators}
 use Rattle.words.proofs.Booleans.{not-both, by-value}
 use Rattle.words.proofs.Lists.{nothing, keep-mem, mem-keep, keep-in, keep-append, ordered-keep, first-least}
@@ -28,7 +28,7 @@ use Rattle.words.proofs.Elements.{conductor-pos, largest-gap-pos, gap-below-con
 use Rattle.words.proofs.Closure.{conductor-le-64}
 use Rattle.words.proofs.Children.{child-at}
 use Rattle.words.proofs.Tree.{x-high}
-use Rattle.tables.specs.Seeds.{leftAfter, seed, row, seedBits, ofBits, seedTable}
+use Rattle.tables.specs.Seeds.{leftAfter, seed, row, seedBits, seedTable}
 use Rattle.tables.specs.Child.{raked, childTable}
 use Rattle.tables.specs.Nodes.{nodeOf, rootChild, childAt, childNode, firstRow, nextOffset}
 use Rattle.tables.specs.declared.Node.{Node}
@@ -61,23 +61,24 @@ module _ (n : Node) (d : ℕ) where
   unfolding childNode
   child-in e l h = simp (ne-eqb (n .word) 0 e, le-ltb (n .conductor) 2 l, le-ltb 63 (n .conductor + d) h)
 
-  -- the child as the code computes it, where s is the raked table
-  pub child-computed : (s : ℕ) → n .word ≢ 0 → 2 ≤ n .conductor → n .conductor + d ≤ 63 → s ≡ raked (n .word) (n .table) d
+  -- the child as the code computes it, where x is the element at the offset and s is the raked table
+  pub child-computed : (x s : ℕ) → n .word ≢ 0 → 2 ≤ n .conductor → x ≡ n .conductor + d → x ≤ 63 → s ≡ raked (n .word) (n .table) d
       → record {
-        word = bitOr (n .word) (1 * 2 ^ (n .conductor + d - 1) % 2 ^ 64);
-        table = bitOr (s / 2 ^ (d + 1)) (7 * 2 ^ (n .conductor + d - 2) % 2 ^ 64);
-        conductor = n .conductor + d + 1;
+        word = bitOr (n .word) (1 * 2 ^ (x - 1) % 2 ^ 64);
+        table = bitOr (s / 2 ^ (d + 1)) (7 * 2 ^ (x - 2) % 2 ^ 64);
+        conductor = x + 1;
       } ≡ childNode n d
   unfolding childAt childTable
-  child-computed s e l h r =
-      rw (r, one-shl (n .conductor + d - 1) (omega arith), shl-exact {a = 7} 3 (n .conductor + d - 2) 64 (omega arith) (omega arith)) (sym (child-in e l h))
+  child-computed x s e l there h r =
+      rw (there, r, one-shl (n .conductor + d - 1) (omega arith), shl-exact {a = 7} 3 (n .conductor + d - 2) 64 (omega arith) (omega arith))
+      (sym (child-in e l (omega arith)))
 
 module _ (w : ℕ) (fits : w < 2 ^ 64) where
   -- the child of a word's node at a right generator is the node of the child's word
   pub node-child : (d : ℕ) → closed w ≡ true → genus w ≤ 31 → List·Memᴰ (conductor w + d) (rightGenerators w)
       → childNode (nodeOf w) d ≡ nodeOf (childWord w (conductor w + d))
   unfolding nodeOf childWord conductor childAt
-  node-child d c h m = elim (ℕ-discrete w 0) [ yes zero ↦ from-zero zero | no nonzero ↦ further nonzero ]
+  node-child d c h m = elim (ℕ-discrete w 0) [ yes zero ↦ from-zero zero | no nonzero ↦ from-nonzero nonzero ]
     where
       -- the word 0 has the generator 1 only
       from-zero : w ≡ 0 → childNode (nodeOf w) d ≡ nodeOf (childWord w (conductor w + d))
@@ -87,8 +88,8 @@ module _ (w : ℕ) (fits : w < 2 ^ 64) where
           omega (arith, generator-offset w fits d (right-generators-mem w fits m .1), multiplicity-le-conductor w fits) in
           child-root (nodeOf w) d zero ∙ sym (first-nodes .1) ∙ ap nodeOf (sym (ap₂ childWord zero first))
 
-      further : w ≢ 0 → childNode (nodeOf w) d ≡ nodeOf (childWord w (conductor w + d))
-      further nonzero =
+      from-nonzero : w ≢ 0 → childNode (nodeOf w) d ≡ nodeOf (childWord w (conductor w + d))
+      from-nonzero nonzero =
           let v = child-at w (conductor w + d) fits c h m in
           child-in (nodeOf w) d nonzero (suc-le-suc (largest-gap-pos w fits nonzero)) (v .low)
           ∙ (λ i. record {
@@ -130,30 +131,30 @@ module _ (c v : ℕ) where
 
 -- by v shifted down by c - 1
 module _ (c v : ℕ) (pos : 0 < c) (fits : v < 2 ^ 64) where
-  abbrev later : ℕ
-  later = v / 2 ^ (c - 1)
+  abbrev shifted : ℕ
+  shifted = v / 2 ^ (c - 1)
 
   -- its bit d tells whether c + d is a gap
-  later-bit : (d : ℕ) → bit later d ≡ not (setOf v (c + d))
+  shifted-bit : (d : ℕ) → bit shifted d ≡ not (setOf v (c + d))
   unfolding setOf
-  later-bit d =
+  shifted-bit d =
       let same : suc (c - 1 + d) ≡ c + d = omega arith in
       bit-shr v (c - 1) d ∙ sym (Bool·not-not (bit v (c - 1 + d))) ∙ ap (λ (x : ℕ). not (setOf v x)) same
 
   -- where it is 0, no gap is left
-  pub later-none : later ≡ 0 → nextOffset c v ≡ 0
-  later-none zero = none-next c v (λ x gap high.
+  pub shifted-none : shifted ≡ 0 → nextOffset c v ≡ 0
+  shifted-none zero = none-next c v (λ x gap high.
       let (d, e) = le-dest high in
-      not-both (later-bit d ∙ ap not (ap (setOf v) e ∙ gap)) (ap (λ (a : ℕ). bit a d) zero ∙ bit-zero d))
+      not-both (shifted-bit d ∙ ap not (ap (setOf v) e ∙ gap)) (ap (λ (a : ℕ). bit a d) zero ∙ bit-zero d))
 
   -- otherwise its lowest standing bit is the next gap
-  pub later-some : later ≢ 0 → nextOffset c v ≡ trailingZeros 64 later
-  later-some some =
-      let t : ℕ = trailingZeros 64 later in
-      let stands = trailing-stands 64 later (trailing-lt 64 later (omega arith) (lt-of-le-of-lt (shr-le v (c - 1)) fits)) in
-      next-is c v t pos fits (not-true (setOf v (c + t)) (sym (later-bit t) ∙ stands)) (λ x gap high.
+  pub shifted-some : shifted ≢ 0 → nextOffset c v ≡ trailingZeros 64 shifted
+  shifted-some some =
+      let t : ℕ = trailingZeros 64 shifted in
+      let stands = trailing-stands 64 shifted (trailing-lt 64 shifted (omega arith) (lt-of-le-of-lt (shr-le v (c - 1)) fits)) in
+      next-is c v t pos fits (not-true (setOf v (c + t)) (sym (shifted-bit t) ∙ stands)) (λ x gap high.
       let (d, e) = le-dest high in
-      omega (arith, lt-of-not-le (λ (l : d < t). not-both (later-bit d ∙ ap not (ap (setOf v) e ∙ gap)) (trailing-below 64 later d l))))
+      omega (arith, lt-of-not-le (λ (l : d < t). not-both (shifted-bit d ∙ ap not (ap (setOf v) e ∙ gap)) (trailing-below 64 shifted d l))))
 
 -- from the conductor of w to the first gap of v after those of w
 pub next-offset : (w v x : ℕ) (l : List ℕ) → w < 2 ^ 64 → gaps w ++ x ∷ l ≡ gaps v → conductor w + nextOffset (conductor w) v ≡ x

@@ -1,4 +1,5 @@
 pub mod Seeds
 pub mod Child
 pub mod Nodes
+pub mod Levels
 pub mod Answers

@@ -1,11 +1,9 @@
 // Seed tables: a semigroup under way, which carries its word, table and conductor and gives its own child, and the calls on words.
-ghost use Prim.Native.Nat.{_^_, _<_, _≤_};
 ghost use mathlib.Core.Path.{_≡_};
-ghost use mathlib.Core.Bool.{true};
-ghost use Rattle.words.specs.Words.{genus, closed};
-ghost use Rattle.words.specs.Answers.{answered};
+ghost use Rattle.words.specs.Answers.{Accepted, answered};
 ghost use Rattle.tables.specs.Child.{raked};
 ghost use Rattle.tables.specs.Nodes.{nodeOf, childNode, firstRow, nextOffset};
+ghost use Rattle.tables.specs.Levels.{NodeWithLevels};
 ghost use Rattle.tables.specs.Answers.{noded, nodeAnswer, tableOf, childOf};
 use words::Element;
 use words::LookAnswer;
@@ -57,7 +55,6 @@ impl Node {
     {
         let w = self.word;
         let c = self.conductor;
-        let k = d.0;
         if w == 0 {
             return Node {
                 word: 1,
@@ -68,17 +65,15 @@ impl Node {
         if c < 2 {
             return self;
         }
-        if 63 < c {
+        let e = Element::at_offset(c, d);
+        if 63 < e.0 {
             return self;
         }
-        if 63 - c < k {
-            return self;
-        }
-        let s = rake(w, self.table, k);
+        let s = rake(w, self.table, d.0);
         Node {
-            word: w | (1 << (c + k - 1)),
-            table: (s >> (k + 1)) | (7 << (c + k - 2)),
-            conductor: c + k + 1,
+            word: w | (1 << (e.0 - 1)),
+            table: (s >> (d.0 + 1)) | (7 << (e.0 - 2)),
+            conductor: e.0 + 1,
         }
     }
 
@@ -111,8 +106,7 @@ impl Node {
 
 // The node of an accepted word: down the tree from the word 0, one gap of the word after the other.
 fn reached(word: u64) -> Node
-    requires { ⌜ closed word ≡ true ⌝ }
-    requires { ⌜ genus word ≤ 32 ⌝ }
+    requires { ⌜ Accepted word ⌝ }
     ensures { λ r. ⌜ r ≡ nodeOf word ⌝ }
 {
     let mut n = Node::root();
@@ -147,9 +141,7 @@ pub fn seed_table(word: u64) -> NumberAnswer
 // The word without an element, from the node of a word of genus 31 at most: refused where the element is no generator or is below
 // the conductor.
 fn removed(n: Node, element: Element) -> NumberAnswer
-    requires { ⌜ n ≡ nodeOf (n .word) ⌝ }
-    requires { ⌜ closed (n .word) ≡ true ⌝ }
-    requires { ⌜ genus (n .word) ≤ 31 ⌝ }
+    requires { ⌜ NodeWithLevels 1 n ⌝ }
     ensures { λ r. ⌜ answered r ≡ childOf (n .word) (element .0) ⌝ }
 {
     let c = n.conductor;

@@ -1,15 +1,16 @@
 -- `tables::child` meets its contract: the first three questions are those of the look and of the genus. Assumes nothing.
-use mathlib.Core.Path.{_≡_, refl, sym, ap, _∙_}
+use mathlib.Core.Path.{_≡_, sym, ap, _∙_}
 use native.Mathlib.Omega.{arith}
 use borrow.Author.Needs.{needs}
 use Rattle.words.specs.Words.{genus}
-use Rattle.words.specs.Answers.{refused, looked, reportOf}
+use Rattle.words.specs.Answers.{refused, looked, reportOf, Accepted}
 use Rattle.words.specs.declared.Report.{Report}
-use Rattle.words.proofs.Answers.{Accepted, asked-refused, look-given}
+use Rattle.words.proofs.Answers.{asked-refused, look-given}
 use Rattle.tables.specs.Nodes.{nodeOf}
 use Rattle.tables.specs.Answers.{childOf}
 use Rattle.tables.specs.declared.Node.{Node}
 use Rattle.tables.proofs.Answers.{no-child}
+use Rattle.tables.proofs.Levels.{accepted-levels}
 use Rattle.tables.proofs.child.Statement.{statement}
 use Rattle.tables.proofs.child.Tie as tie
 
@@ -28,13 +29,13 @@ returns c =
     sym (no-child _ _ (accepted at .0) (omega (arith, same-genus at)))
 
 reached-requires : tie.Need-reached-requires
-reached-requires c κs = let h = accepted (c .before .before .before) .0 in (h .sums, h .few)
+reached-requires c κs = accepted (c .before .before .before) .0
 
 removed-requires : tie.Need-removed-requires
 unfolding nodeOf
 removed-requires c κs =
     let at = c .before .before .before .before in
-    rw (c .reached .ensures) (refl, (accepted at .0 .sums, omega (arith, same-genus at)))
+    rw (c .reached .ensures) (accepted-levels 1 _ (omega arith) (accepted at .0) (omega (arith, same-genus at)))
 
 returns-2 : tie.Need-returns-2
 unfolding childOf

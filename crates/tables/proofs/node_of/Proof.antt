@@ -1,8 +1,8 @@
 -- `tables::node_of` meets its contract: the way down the tree ends at the node of an accepted word. Assumes nothing.
 use mathlib.Core.Path.{sym, ap, _∙_}
 use borrow.Author.Needs.{needs}
-use Rattle.words.specs.Answers.{refused, given, looked}
-use Rattle.words.proofs.Answers.{Accepted, asked, asked-refused, look-given}
+use Rattle.words.specs.Answers.{refused, given, looked, Accepted}
+use Rattle.words.proofs.Answers.{asked, asked-refused, look-given}
 use Rattle.tables.specs.Answers.{nodeAnswer}
 use Rattle.tables.proofs.node_of.Statement.{statement}
 use Rattle.tables.proofs.node_of.Tie as tie
@@ -12,7 +12,7 @@ accepted : (c : tie.After-enum-told) → Accepted (c .before .before .before .ar
 accepted c = look-given _ _ (sym (c .before .before .look .ensures) ∙ ap looked (c .enum-told .given .1)) .0
 
 reached-requires : tie.Need-reached-requires
-reached-requires c κs = (accepted c .sums, accepted c .few)
+reached-requires c κs = accepted c
 
 returns : tie.Need-returns
 unfolding nodeAnswer

@@ -25,7 +25,7 @@ goes-on : (c : tie.After-child Inv-loop μ-loop) → let u = c .before .before .
 goes-on c =
     let start = c .before .before .before .before .before .before in
     let n = c .before .before .before .before .loop .n in
-    way-goes-on (start .args .word) (omega arith) (start .pre .0) (start .pre .1) n (c .child .result) (c .before .before .before .before .loop .inv)
+    way-goes-on (start .args .word) (omega arith) (start .pre) n (c .child .result) (c .before .before .before .before .loop .inv)
     (c .before .before .if1 .taken) (c .child .ensures ∙ ap (childNode n) (c .before .next-offset .ensures))
 
 loop-less : tie.Need-loop-less Inv-loop μ-loop

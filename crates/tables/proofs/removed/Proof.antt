@@ -11,25 +11,21 @@ use Rattle.words.specs.Answers.{given}
 use Rattle.words.proofs.Bits.{bit-past, bit-test}
 use Rattle.tables.specs.Nodes.{firstRow}
 use Rattle.tables.specs.declared.Node.{Node}
-use Rattle.tables.proofs.Answers.{NodeBelow32, positive-conductor, refused-below, refused-there, given-there}
+use Rattle.tables.proofs.Answers.{positive-conductor, refused-below, refused-there, given-there}
 use Rattle.tables.proofs.removed.Statement.{statement}
 use Rattle.tables.proofs.removed.Tie as tie
-
--- what the function requires
-known : (c : tie.Start) → NodeBelow32 (c .args .n)
-known c = record { node = c .pre .0; fits = omega arith; sums = c .pre .1 .0; few = c .pre .1 .1 }
 
 returns : tie.Need-returns
 returns c =
     let start = c .before .before in
-    sym (refused-below _ _ (known start) (omega (arith, positive-conductor (start .args .n) (start .args .element .0) (known start))))
+    sym (refused-below _ _ (start .pre) (omega (arith, positive-conductor (start .args .n) (start .args .element .0) (start .pre))))
 
 returns-2 : tie.Need-returns-2
 unfolding firstRow
 returns-2 c =
     let at = c .before .before in
     let n = at .before .before .before .args .n in
-    sym (refused-there n _ (known (at .before .before .before)) (at .of-element .result .0) (at .of-element .ensures)
+    sym (refused-there n _ (at .before .before .before .pre) (at .of-element .result .0) (at .of-element .ensures)
     (bit-past (firstRow n) 64 (at .of-element .result .0) (lt-of-le-of-lt (mod-le (n .table) _) (omega arith)) (c .if2 .taken)))
 
 -- the code's test is the bit of the first row
@@ -42,7 +38,7 @@ returns-3 c =
     let row = c .before .before in
     let at = row .before .before .before in
     let d = at .of-element .result .0 in
-    sym (refused-there _ _ (known (at .before .before .before)) d (at .of-element .ensures)
+    sym (refused-there _ _ (at .before .before .before .pre) d (at .of-element .ensures)
     (tested row false (sym (bit-test (row .first-row .result) d) ∙ ne-eqb _ 1 (c .if3 .taken))))
 
 returns-4 : tie.Need-returns-4
@@ -51,7 +47,7 @@ returns-4 c =
     let at = row .before .before .before in
     let d = at .of-element .result .0 in
     ap (λ (k : Node). given (k .word)) (c .child .ensures)
-    ∙ sym (given-there _ _ (known (at .before .before .before)) d (at .of-element .ensures)
+    ∙ sym (given-there _ _ (at .before .before .before .pre) d (at .of-element .ensures)
     (omega arith) (tested row true (sym (bit-test (row .first-row .result) d) ∙ eq-eqb _ 1 (c .before .if3 .left))))
 
 pub removed-spec : {M : Type 1} → statement M

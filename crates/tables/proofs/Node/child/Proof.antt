@@ -13,15 +13,17 @@ returns-2 : tie.Need-returns-2
 returns-2 c = sym (child-low _ _ (c .before .if1 .left) (c .if2 .taken))
 
 returns-3 : tie.Need-returns-3
-returns-3 c = sym (child-far _ _ (c .before .before .if1 .left) (c .before .if2 .left) (omega arith))
+returns-3 c =
+    let at = c .before .before .before in
+    sym (child-far _ _ (at .before .if1 .left) (at .if2 .left) (omega (arith, c .before .before .at-offset .ensures)))
 
 returns-4 : tie.Need-returns-4
-returns-4 c = sym (child-far _ _ (c .before .before .before .if1 .left) (c .before .before .if2 .left) (omega arith))
-
-returns-5 : tie.Need-returns-5
-returns-5 c =
-    let at = c .before .before .before .before in
-    child-computed (at .before .args .self) (at .before .args .d .0) _ (at .if1 .left) (c .before .before .before .if2 .left) (omega arith) (c .rake .ensures)
+returns-4 c =
+    let raked = c .before .before .before .before in
+    let there = raked .before .before .before in
+    let start = there .before .before .before in
+    child-computed (start .args .self) (start .args .d .0) _ _ (there .before .before .if1 .left) (there .before .if2 .left)
+    (omega (arith, there .at-offset .ensures)) (raked .before .if3 .left) (raked .rake .ensures)
 
 pub child-spec : {M : Type 1} → statement M
 child-spec =
@@ -29,8 +31,8 @@ child-spec =
     (tie.spec
     returns
     returns-2
+    (λ c κs. search needs)
     returns-3
-    returns-4
     (λ c κs. search needs)
     (λ c. search needs)
     (λ c. search needs)
@@ -39,7 +41,4 @@ child-spec =
     (λ c. search needs)
     (λ c. search needs)
     (λ c. search needs)
-    (λ c. search needs)
-    (λ c. search needs)
-    (λ c. search needs)
-    returns-5)
+    returns-4)

@@ -8,7 +8,7 @@ use borrow.Author.Tests.{le-ltb}
 use Rattle.words.proofs.Booleans.{not-both}
 use Rattle.words.proofs.Words.{element-past}
 use Rattle.tables.specs.Nodes.{nextOffset}
-use Rattle.tables.proofs.Nodes.{none-next, later-none, later-some}
+use Rattle.tables.proofs.Nodes.{none-next, shifted-none, shifted-some}
 use Rattle.tables.proofs.Node.next_offset.Statement.{statement}
 use Rattle.tables.proofs.Node.next_offset.Tie as tie
 
@@ -24,7 +24,7 @@ returns-2 c =
 returns-3 : tie.Need-returns-3
 returns-3 c =
     let a = c .before .before .before .args in
-    sym (later-none (a .self .conductor) (a .word) (omega arith) (omega arith) (c .if3 .taken))
+    sym (shifted-none (a .self .conductor) (a .word) (omega arith) (omega arith) (c .if3 .taken))
 
 cast-t6 : tie.Need-cast-t6
 cast-t6 c =
@@ -34,7 +34,7 @@ cast-t6 c =
 returns-4 : tie.Need-returns-4
 returns-4 c =
     let a = c .before .before .before .args in
-    sym (later-some (a .self .conductor) (a .word) (omega arith) (omega arith) (c .if3 .left))
+    sym (shifted-some (a .self .conductor) (a .word) (omega arith) (omega arith) (c .if3 .left))
 
 pub next-offset-spec : {M : Type 1} → statement M
 next-offset-spec =
