@@ -43,7 +43,7 @@ walk-leaf w fits small ordered going =
     let (accepted, same) = and-eq-true-iff (leb (genus (w .word)) 32 && closed (w .word)) (eqb (genus (w .word)) (w .genus)) .0 (rw going at ordered) in
     let sums = and-eq-true-iff (leb (genus (w .word)) 32) (closed (w .word)) .0 accepted .1 in
     subst (List·Memᴰ (w .word)) (genus-list-leaves (w .genus) small)
-    (mem-genus-list (w .genus) (w .word) record { fits = fits; sums = sums; gapped = eqb-true (genus (w .word)) (w .genus) same })
+    (mem-genus-list (w .genus) (w .word) record { fits = fits; closed = sums; gapped = eqb-true (genus (w .word)) (w .genus) same })
 
 -- ---- endings
 

@@ -9,17 +9,19 @@ use lib.ListN.{length}
 use lib.Pow.{pow-mono}
 use borrow.Author.Tests.{eq-eqb}
 use Rattle.words.specs.Lists.{joined, sumOver, onFrom}
-use Rattle.words.specs.Words.{positions, gaps, genus, conductor, childWord}
+use Rattle.words.specs.Words.{positions, gaps, genus, conductor, childWord, above}
 use Rattle.words.specs.Elements.{rightGenerators}
 use Rattle.words.specs.GenusList.{descendantCount}
 use Rattle.words.proofs.Lists.{joined-mem, joined-map, length-joined, sum-of-powers, on-from-joined}
-use Rattle.words.proofs.StandingBits.{above, positions-ordered, positions-zero, positions-split, positions-ones}
+use Rattle.words.proofs.StandingBits.{positions-ordered, positions-zero, positions-split, positions-ones}
 use Rattle.words.proofs.Elements.{conductor-pos}
-use Rattle.words.proofs.Children.{Child, child-at}
+use Rattle.words.proofs.Children.{child-at}
+use Rattle.words.specs.Children.{Child}
 use Rattle.words.proofs.Tree.{descendants-mem, count-bound}
 use Rattle.words.specs.Tree.{leaves}
 use Rattle.words.proofs.Leaves.{descendants-leaves}
-use Rattle.walk.specs.Branches.{branches, TakenOff, Levels, Offsets}
+use Rattle.walk.specs.Branches.{branches, TakenOff, Offsets}
+use Rattle.tables.specs.Levels.{Levels}
 
 module _ (r w : ℕ) where
   -- ---- branch by branch
@@ -62,18 +64,18 @@ length-children w rest fits = length-joined _ (positions rest) ∙ each (positio
 module _ (r w : ℕ) (at : Levels (suc r) w) where
   -- a right generator gives a child
   pub child-of : {x : ℕ} → List·Memᴰ x (rightGenerators w) → Child w x
-  child-of {x} m = child-at w x (at .fits) (at .sums) (omega (arith, at .few)) m
+  child-of {x} m = child-at w x (at .fits) (at .closed) (omega (arith, at .few)) m
 
   pub child-levels : {x : ℕ} → List·Memᴰ x (rightGenerators w) → Levels r (childWord w x)
-  child-levels m = let v = child-of m in record { fits = v .fits; sums = v .sums; few = omega (arith, v .new-genus, at .few) }
+  child-levels m = let v = child-of m in record { fits = v .fits; closed = v .closed; few = omega (arith, v .new-genus, at .few) }
 
 -- ---- how many
 
 pub leaves-bound : (r w : ℕ) → Levels r w → length (leaves r w) ≤ 2 ^ (64 - conductor w)
 unfolding descendantCount
 leaves-bound r w at =
-    subst (λ (l : List ℕ). length l ≤ 2 ^ (64 - conductor w)) (descendants-leaves r w (at .fits) (at .sums) (at .few))
-    (count-bound (genus w + r) w (at .fits) (at .sums) (omega arith) (at .few))
+    subst (λ (l : List ℕ). length l ≤ 2 ^ (64 - conductor w)) (descendants-leaves r w (at .fits) (at .closed) (at .few))
+    (count-bound (genus w + r) w (at .fits) (at .closed) (omega arith) (at .few))
 
 -- as no two offsets are the same, no more than below the conductor
 pub branches-fit : (r w rest : ℕ) → Levels (suc r) w → Offsets w rest → length (branches r w rest) < 2 ^ 64
@@ -107,7 +109,7 @@ module _ (r w row v : ℕ) (at : Levels (suc r) w) (row-is : rightGenerators w �
   next-gap : {x : ℕ} → List·Memᴰ x (rightGenerators w) → List·Memᴰ v (leaves r (childWord w x)) → (l : List ℕ) × (gaps w ++ x ∷ l ≡ gaps v)
   next-gap {x} m n =
       let below = child-levels r w at m in
-      let all = descendants-leaves r (childWord w x) (below .fits) (below .sums) (below .few) in
+      let all = descendants-leaves r (childWord w x) (below .fits) (below .closed) (below .few) in
       let d = descendants-mem (genus (childWord w x) + r) (childWord w x) (subst (List·Memᴰ v) (sym all) n) in (
         d .others,
         sym (append-assoc (gaps w) (x ∷ []) (d .others)) ∙ ap (λ (k : List ℕ). k ++ d .others) (sym (child-of r w at m .new-gaps)) ∙ d .split,

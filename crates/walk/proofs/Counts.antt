@@ -8,8 +8,8 @@ use lib.ListN.{length}
 use borrow.Author.Tests.{le-leb, lt-leb}
 use Rattle.words.specs.Words.{genus}
 use Rattle.words.specs.GenusList.{descendants, descendantCount}
-use Rattle.words.specs.Answers.{refused, given}
-use Rattle.words.proofs.Answers.{Accepted, asked}
+use Rattle.words.specs.Answers.{refused, given, Accepted}
+use Rattle.words.proofs.Answers.{asked}
 use Rattle.words.proofs.First.{genus-list-first}
 use Rattle.words.specs.Tree.{leaves}
 use Rattle.words.proofs.Leaves.{descendants-leaves}
@@ -39,4 +39,4 @@ module _ (w g : ℕ) (h : Accepted w) where
   count-leaves l k fits =
       let sum : g ≡ genus w + (g - genus w) = omega arith in
       count-answers w g h l ∙ ap (λ (n : ℕ). given (length (descendants n w))) sum
-      ∙ ap (λ (k : List ℕ). given (length k)) (descendants-leaves (g - genus w) w fits (h .sums) (omega arith))
+      ∙ ap (λ (k : List ℕ). given (length k)) (descendants-leaves (g - genus w) w fits (h .closed) (omega arith))

@@ -1,4 +1,5 @@
--- An atlas that keeps demand 3 is none of the useless ones, and this one keeps it. Assumes nothing.
+-- An atlas that meets demand 3 is none of the five useless ones that break it, one that meets demand 2 does not refuse every word, and
+-- this one meets both. Assumes nothing.
 use Prim.Native.Nat.{ℕ, _≤_}
 use mathlib.Core.Path.{_≡_, refl, sym, _∙_, ap, subst}
 use mathlib.Core.Bool.{true}
@@ -9,12 +10,16 @@ use lib.ListN.{length, take, length-take}
 use lib.Seq.{take-all}
 use Rattle.words.specs.Lists.{joined}
 use Rattle.words.specs.GenusList.{genusList}
+use Rattle.words.proofs.Words.{genus-zero, closed-zero}
+use Rattle.words.proofs.Closure.{closed-iff}
+use Rattle.words.proofs.Answers.{look-given, accepted-iff}
 use Rattle.words.proofs.Cases.{known-list}
 use Rattle.walk.specs.declared.Walk.{Walk}
-use Rattle.words.specs.Answers.{given}
+use Rattle.words.specs.Answers.{Answer, refused, given, reportOf, lookOf}
+use Rattle.words.specs.declared.Report.{Report}
 use Rattle.walk.specs.declared.Written.{Written}
 use Rattle.walk.specs.Demand3.{Atlas, atlas, Call, call, batches, wrote, lengths, N, AfterCall, Demand3}
-use Rattle.walk.specs.Useful.{SameForAll, FinishesEarly, WritesNothing, IdlesAfterFirst, Useful}
+use Rattle.walk.specs.Useful.{SameForAll, FinishesEarly, WritesNothing, IdlesAfterFirst, Useful, AcceptsExactly, RefusesEveryWord}
 use Rattle.walk.proofs.Demand3.{demand3}
 
 -- a list of length 1 to lend
@@ -112,3 +117,20 @@ module _ (A : Atlas) (demand : Demand3 A) where
 
 pub atlas-useful : Useful atlas
 atlas-useful = useful atlas demand3
+
+-- ---- demand 2
+
+-- the look call of this atlas meets it
+pub look-accepts : AcceptsExactly lookOf
+look-accepts w fits = (
+  λ (r, e). accepted-iff w fits .0 (e ∙ ap given (look-given w r e .1)),
+  λ h. (reportOf w, accepted-iff w fits .1 h),
+)
+
+-- and an atlas whose look call does so does not refuse every word: it accepts the word 0
+pub not-refusing : (look : ℕ → Answer Report) → AcceptsExactly look → RefusesEveryWord look → ⊥
+not-refusing look accepts refuses =
+    let (r, e) = accepts 0 (omega arith) .1 (closed-iff 0 (omega arith) .0 closed-zero, omega (arith, genus-zero)) in
+    let (n, f) = refuses 0 (omega arith) in
+    let z : _≡_ {A = ℕ} 0 1 = cc in
+    omega arith

@@ -37,8 +37,8 @@ pub answer-of : (m : Moved) (v : Val) → Is D.the-row m (v ∷ []) → Is R.the
 answer-of m v is = LL.owed D.the-type D′.the-laws m _ is .1 .0
 
 -- whoever holds the two fields can make a `Moved`
-pub made : (m : Moved) (v : Val) → Is T.the-row (m .walk) (walk-val (m .walk) ∷ []) → Is R.the-row (m .answer) (v ∷ []) → Is D.the-row m (moved-val m ∷ [])
-made m v w r = LL.owes D.the-type D′.the-laws m (w, (EL.owes R.the-type R′.the-laws (m .answer) (EL.owed R.the-type R′.the-laws (m .answer) _ r), tt))
+pub moved-made : (m : Moved) (v : Val) → Is T.the-row (m .walk) (walk-val (m .walk) ∷ []) → Is R.the-row (m .answer) (v ∷ []) → Is D.the-row m (moved-val m ∷ [])
+moved-made m v w r = LL.owes D.the-type D′.the-laws m (w, (EL.owes R.the-type R′.the-laws (m .answer) (EL.owed R.the-type R′.the-laws (m .answer) _ r), tt))
 
 -- a machine value that has a MIR type
 abbrev pub Typed : Ty → Val → Type 0

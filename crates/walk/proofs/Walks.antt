@@ -19,8 +19,8 @@ use Rattle.words.proofs.Tree.{descendants-zero, count-below, count-own}
 use Rattle.words.proofs.Booleans.{not-both, by-value}
 use Rattle.words.proofs.GenusList.{genus-list-mem, mem-genus-list, genus-list-ordered, before-asym}
 use Rattle.walk.specs.declared.Walk.{Walk}
-use Rattle.words.specs.Answers.{refused, given, ask}
-use Rattle.words.proofs.Answers.{Accepted, asked}
+use Rattle.words.specs.Answers.{refused, given, ask, Accepted}
+use Rattle.words.proofs.Answers.{asked}
 use Rattle.walk.specs.Walks.{none, rest, standing, inOrder, freshOf, startOf, unmoved, moved, batchOf, countOf}
 
 pub none-iff : (l : List ℕ) → (none l ≡ true) ↔ (length l ≡ 0)
@@ -44,7 +44,7 @@ module _ (g : ℕ) (k : List ℕ) where
   standing-in-order small [] e = refl
   standing-in-order small (x ∷ l) e =
       let h = genus-list-mem g (subst (List·Memᴰ x) e (mem-middle k l x)) in
-      rw (le-leb (genus x) 32 (le-trans (le-of-eq (h .gapped)) small), h .sums, eq-eqb (genus x) g (h .gapped))
+      rw (le-leb (genus x) 32 (le-trans (le-of-eq (h .gapped)) small), h .closed, eq-eqb (genus x) g (h .gapped))
 
 -- what a walk has still to give is an end of its genus list
 pub rest-end : (w : Walk) → (k : List ℕ) × (k ++ rest w ≡ genusList (w .genus))
@@ -62,7 +62,7 @@ in-order-stands g x true fits h =
 in-order-stands g x false fits h =
     let (accepted, same) = and-eq-true-iff (leb (genus x) 32 && closed x) (eqb (genus x) g) .0 h in
     let sums = and-eq-true-iff (leb (genus x) 32) (closed x) .0 accepted .1 in
-    let (k, l, e) = mem-split (genusList g) (mem-genus-list g x record { fits = fits; sums = sums; gapped = eqb-true (genus x) g same }) in
+    let (k, l, e) = mem-split (genusList g) (mem-genus-list g x record { fits = fits; closed = sums; gapped = eqb-true (genus x) g same }) in
     (k, x ∷ l, e, refl)
 
 -- its rest is that end, and it is the walk that has its rest still to give
@@ -119,7 +119,7 @@ start-answers w h = asked refused w (given record { genus = genus w; word = w; f
 
 pub start-in-order : (w : ℕ) → Accepted w → inOrder record { genus = genus w; word = w; finished = false } ≡ true
 unfolding inOrder
-start-in-order w h = rw (le-leb (genus w) 32 (h .few), h .sums, eq-eqb (genus w) (genus w) refl)
+start-in-order w h = rw (le-leb (genus w) 32 (h .few), h .closed, eq-eqb (genus w) (genus w) refl)
 
 -- ---- the count call
 
@@ -131,11 +131,11 @@ count-answers w g h small = asked refused w (ask (leb g 32) (refused 3) (given (
 pub count-all : (g : ℕ) → g ≤ 32 → countOf 0 g ≡ given (length (genusList g))
 unfolding descendantCount
 count-all g small =
-    count-answers 0 g record { sums = closed-zero; few = le-trans (le-of-eq genus-zero) (omega arith) } small
+    count-answers 0 g record { closed = closed-zero; few = le-trans (le-of-eq genus-zero) (omega arith) } small
     ∙ ap (λ (l : List ℕ). given (length l)) (descendants-zero g)
 
 pub count-is-0-below : (w g : ℕ) → Accepted w → g < genus w → countOf w g ≡ given 0
 count-is-0-below w g h below = count-answers w g h (omega (arith, h .few)) ∙ ap given (count-below g w below)
 
 pub count-is-1-at-own : (w : ℕ) → w < 2 ^ 64 → Accepted w → countOf w (genus w) ≡ given 1
-count-is-1-at-own w fits h = count-answers w (genus w) h (h .few) ∙ ap given (count-own w fits (h .sums))
+count-is-1-at-own w fits h = count-answers w (genus w) h (h .few) ∙ ap given (count-own w fits (h .closed))

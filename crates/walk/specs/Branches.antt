@@ -1,15 +1,11 @@
--- The leaves below some children of a word, and where a word has levels below it: what the private functions of the walk count and
--- write. Assumes nothing: these are definitions.
-use Prim.Native.Nat.{ℕ, _+_, _^_, _≤_, _<_}
+-- The leaves below some children of a word: what the private functions of the walk count and write. Assumes nothing: these are definitions.
+use Prim.Native.Nat.{ℕ, _+_, _<_}
 use mathlib.Core.Path.{_≡_}
-use mathlib.Core.Bool.{true}
 use mathlib.Core.List.{List, _∷_, List·Memᴰ}
 use Rattle.words.specs.Lists.{joined}
-use Rattle.words.specs.Words.{positions, genus, conductor, closed, childWord}
+use Rattle.words.specs.Words.{positions, conductor, childWord}
 use Rattle.words.specs.Elements.{rightGenerators}
 use Rattle.words.specs.Tree.{leaves}
-use Rattle.tables.specs.Nodes.{nodeOf}
-use Rattle.tables.specs.declared.Node.{Node}
 
 -- the words r levels below those children of w whose offsets from the conductor are the bits of rest
 unfoldable pub branches : ℕ → ℕ → ℕ → List ℕ
@@ -18,17 +14,6 @@ branches r w rest = joined (λ d. leaves r (childWord w (conductor w + d))) (pos
 -- the bits of rest are offsets of generators of w not below its conductor
 abbrev pub Offsets : ℕ → ℕ → Type 0
 Offsets w rest = (d : ℕ) → List·Memᴰ d (positions rest) → List·Memᴰ (conductor w + d) (rightGenerators w)
-
--- w is a closed word of 64 bits with r levels below it up to genus 32
-pub record Levels (r w : ℕ) : Type 0 where
-  pub fits : w < 2 ^ 64
-  pub sums : closed w ≡ true
-  pub few : genus w + r ≤ 32
-
--- n is the node of such a word
-pub record Right (r : ℕ) (n : Node) : Type 0 where
-  pub same : n ≡ nodeOf (n .word)
-  pub levels : Levels r (n .word)
 
 -- at is the position of the lowest standing bit of a number of 64 bits, and rest is the number without it
 pub record TakenOff (bits at rest : ℕ) : Type 0 where

@@ -1,15 +1,21 @@
--- The useless atlases, which demand 3 shuts out by name. Assumes nothing: these are definitions.
-use Prim.Native.Nat.{ℕ, _≤_}
+-- The useless atlases, which demands 2 and 3 shut out by name. Assumes nothing: these are definitions.
+use Prim.Native.Nat.{ℕ, _^_, _≤_, _<_}
 use mathlib.Core.Path.{_≡_}
+use mathlib.Core.Logic.{_↔_}
 use mathlib.Core.Bool.{true}
 use mathlib.Core.List.{List, [], _∷_, _++_, List·Memᴰ}
 use lib.ListN.{length}
 use Rattle.words.specs.Lists.{joined}
+use Rattle.words.specs.Sets.{ClosedUnderAddition}
+use Rattle.words.specs.Words.{setOf, genus}
 use Rattle.words.specs.GenusList.{genusList}
-use Rattle.words.specs.Answers.{given}
+use Rattle.words.specs.Answers.{Answer, refused, given}
+use Rattle.words.specs.declared.Report.{Report}
 use Rattle.walk.specs.declared.Written.{Written}
 use Rattle.walk.specs.Demand3.{Atlas, Call, batches, wrote}
 use Rattle.walk.specs.declared.Walk.{Walk}
+
+-- ---- those that break demand 3
 
 -- one that prints the same list for all genera
 abbrev pub SameForAll : Atlas → Type 0
@@ -53,3 +59,14 @@ pub record Useful (A : Atlas) : Type 0 where
   pub not-writing-nothing : WritesNothing A → ⊥
   pub not-idling : IdlesAfterFirst A → ⊥
   pub not-inventing : InventsCount A → ⊥
+
+-- ---- the one that breaks demand 2
+
+-- the demand of a call that looks at words: a word is accepted exactly when its set is closed under addition and it has at most 32 gaps
+abbrev pub AcceptsExactly : (ℕ → Answer Report) → Type 0
+AcceptsExactly look =
+    (w : ℕ) → w < 2 ^ 64 → ((r : Report) × (look w ≡ given r)) ↔ (ClosedUnderAddition (setOf w) × (genus w ≤ 32))
+
+-- one that refuses every word
+abbrev pub RefusesEveryWord : (ℕ → Answer Report) → Type 0
+RefusesEveryWord look = (w : ℕ) → w < 2 ^ 64 → (n : ℕ) × (look w ≡ refused n)

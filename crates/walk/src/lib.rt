@@ -4,14 +4,17 @@ ghost use mathlib.Core.Path.{_≡_};
 ghost use mathlib.Core.List.{List·Memᴰ};
 ghost use lib.ListN.{length};
 ghost use Rattle.words.specs.Lists.{onFrom};
+ghost use Rattle.words.specs.Words.{above};
 ghost use Rattle.words.specs.Answers.{answered};
 ghost use Rattle.words.specs.Tree.{leaves};
+ghost use Rattle.tables.specs.Levels.{NodeWithLevels};
 ghost use Rattle.walk.specs.Answers.{begun};
 ghost use Rattle.walk.specs.Walks.{inOrder, ended, freshOf, startOf, batchOf, countOf};
-ghost use Rattle.walk.specs.Branches.{branches, Offsets, Right, TakenOff};
+ghost use Rattle.walk.specs.Branches.{branches, Offsets, TakenOff};
 ghost use Rattle.walk.specs.Lending.{putOne, putAll};
 use tables::Node;
 use tables::NodeAnswer;
+use words::Element;
 use words::LookAnswer;
 use words::NumberAnswer;
 use words::Offset;
@@ -48,26 +51,36 @@ pub struct Moved {
     pub answer: BatchAnswer,
 }
 
-// The position of the lowest standing bit of a number, and the number without it.
+// The lowest of some offsets, which are the bits of a number, and the others.
 struct Lowest {
-    at: u64,
+    at: Offset,
     rest: u64,
 }
 
+// Takes the lowest of some offsets off.
 fn lowest_of(bits: u64) -> Lowest
     requires { ⌜ 0 < bits ⌝ }
-    ensures { λ r. ⌜ TakenOff bits (r .at) (r .rest) ⌝ }
+    ensures { λ r. ⌜ TakenOff bits (r .at .0) (r .rest) ⌝ }
 {
     let at = u64::trailing_zeros(bits) as u64;
     Lowest {
-        at,
+        at: Offset(at),
         rest: bits - (1 << at),
     }
 }
 
+// Those of a row's offsets that come after one.
+fn later(row: u64, offset: Offset) -> u64
+    requires { ⌜ offset .0 < 63 ⌝ }
+    ensures { λ r. ⌜ r ≡ above row (offset .0) ⌝ }
+{
+    let passed = offset.0 + 1;
+    (row >> passed) << passed
+}
+
 // How many words there are `left` levels below a node.
 fn count_node(n: Node, left: u64) -> u64
-    requires { ⌜ Right left n ⌝ }
+    requires { ⌜ NodeWithLevels left n ⌝ }
     ensures { λ r. ⌜ r ≡ length (leaves left (n .word)) ⌝ }
 {
     if left == 0 {
@@ -78,7 +91,7 @@ fn count_node(n: Node, left: u64) -> u64
 
 // How many there are `left` levels below those children of a node whose offsets are the bits of `rest`.
 fn sum_from(n: Node, rest: u64, left: u64) -> u64
-    requires { ⌜ Right (left + 1) n ⌝ }
+    requires { ⌜ NodeWithLevels (left + 1) n ⌝ }
     requires { ⌜ Offsets (n .word) rest ⌝ }
     ensures { λ r. ⌜ r ≡ length (branches left (n .word) rest) ⌝ }
 {
@@ -89,7 +102,8 @@ fn sum_from(n: Node, rest: u64, left: u64) -> u64
         return 0;
     }
     let d = lowest_of(rest);
-    count_node(n.child(Offset(d.at)), left) + sum_from(n, d.rest, left)
+    let at = d.at;
+    count_node(n.child(at), left) + sum_from(n, d.rest, left)
 }
 
 // What was done with a lent list: how many words were written, and whether one found no room, which is then the next.
@@ -124,7 +138,7 @@ fn put(word: u64, s: Emitted, out: &mut [u64]) -> Emitted
 
 // Writes the children of a node at the offsets that are the bits of `rest`: the node's word with one bit more.
 fn put_children(n: Node, rest: u64, s: Emitted, out: &mut [u64]) -> Emitted
-    requires { ⌜ Right 1 n ⌝ }
+    requires { ⌜ NodeWithLevels 1 n ⌝ }
     requires { ⌜ Offsets (n .word) rest ⌝ }
     ensures { λ r. ⌜ (now (out .exit), r) ≡ putAll (branches 0 (n .word) rest) (now (out .entry), s) ⌝ }
 {
@@ -134,7 +148,9 @@ fn put_children(n: Node, rest: u64, s: Emitted, out: &mut [u64]) -> Emitted
     let mut t = s;
     while bits != 0 {
         let d = lowest_of(bits);
-        t = put(w + (1 << (c + d.at - 1)), t, out);
+        let at = d.at;
+        let e = Element::at_offset(c, at);
+        t = put(w + (1 << (e.0 - 1)), t, out);
         bits = d.rest;
     }
     t
@@ -142,7 +158,7 @@ fn put_children(n: Node, rest: u64, s: Emitted, out: &mut [u64]) -> Emitted
 
 // Writes the words `left` levels below a node.
 fn emit(n: Node, left: u64, s: Emitted, out: &mut [u64]) -> Emitted
-    requires { ⌜ Right left n ⌝ }
+    requires { ⌜ NodeWithLevels left n ⌝ }
     ensures { λ r. ⌜ (now (out .exit), r) ≡ putAll (leaves left (n .word)) (now (out .entry), s) ⌝ }
 {
     if left == 0 {
@@ -154,7 +170,7 @@ fn emit(n: Node, left: u64, s: Emitted, out: &mut [u64]) -> Emitted
 
 // Writes those `left` levels below the children of a node whose offsets are the bits of `rest`.
 fn emit_from(n: Node, rest: u64, left: u64, s: Emitted, out: &mut [u64]) -> Emitted
-    requires { ⌜ Right (left + 1) n ⌝ }
+    requires { ⌜ NodeWithLevels (left + 1) n ⌝ }
     requires { ⌜ Offsets (n .word) rest ⌝ }
     ensures { λ r. ⌜ (now (out .exit), r) ≡ putAll (branches left (n .word) rest) (now (out .entry), s) ⌝ }
 {
@@ -168,13 +184,14 @@ fn emit_from(n: Node, rest: u64, left: u64, s: Emitted, out: &mut [u64]) -> Emit
         return s;
     }
     let d = lowest_of(rest);
-    let t = emit(n.child(Offset(d.at)), left, s, out);
+    let at = d.at;
+    let t = emit(n.child(at), left, s, out);
     emit_from(n, d.rest, left, t, out)
 }
 
 // Writes the words `left` levels below a node from `word` on, which is one of them: first those below the child that has it.
 fn resume(n: Node, word: u64, left: u64, s: Emitted, out: &mut [u64]) -> Emitted
-    requires { ⌜ Right left n ⌝ }
+    requires { ⌜ NodeWithLevels left n ⌝ }
     requires { ⌜ List·Memᴰ word (leaves left (n .word)) ⌝ }
     ensures { λ r. ⌜ (now (out .exit), r) ≡ putAll (onFrom word (leaves left (n .word))) (now (out .entry), s) ⌝ }
 {
@@ -183,8 +200,7 @@ fn resume(n: Node, word: u64, left: u64, s: Emitted, out: &mut [u64]) -> Emitted
     } else {
         let d = n.next_offset(word);
         let t = resume(n.child(d), word, left - 1, s, out);
-        let later = d.0 + 1;
-        let rest = (n.first_row() >> later) << later;
+        let rest = later(n.first_row(), d);
         emit_from(n, rest, left - 1, t, out)
     }
 }

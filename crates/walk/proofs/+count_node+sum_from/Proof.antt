@@ -11,8 +11,8 @@ use borrow.Fn.PlainCycle.{Measures, is, falls, and}
 use Rattle.words.specs.Tree.{leaves}
 use Rattle.walk.specs.Branches.{branches}
 use Rattle.walk.proofs.Branches.{branches-none, length-children, branches-fit}
-use Rattle.walk.proofs.Nodes.{levels, Row, first-row, FirstChild, first-child}
-use Rattle.walk.proofs.Measure.{depth, down, on}
+use Rattle.walk.proofs.Nodes.{levels-below, Row, row-branches, FirstChild, first-child}
+use Rattle.walk.proofs.Measure.{depth, depth-down, depth-on}
 use Rattle.walk.proofs.count_node.Reads as count-node
 use Rattle.walk.proofs.count_node.Kinds as count-node-kinds
 use Rattle.walk.proofs.+count_node+sum_from.Lts-count_node as count-node-lts
@@ -53,12 +53,12 @@ module _ (t : ℕ) where
   -- the node's first row
   row : (c : count-node-lts.After-first-row (count-node-claims t) (count-node-at t) count-node.Post)
       → Row (c .before .before .args .left) (c .before .before .args .n) (c .first-row .result)
-  row c = first-row _ _ (c .before .if1 .left) (c .before .before .pre .1) (c .first-row .ensures)
+  row c = row-branches _ _ (c .before .if1 .left) (c .before .before .pre .1) (c .first-row .ensures)
 
   count-node-sum-from-requires : count-node-lts.Need-sum-from-requires (count-node-claims t) (count-node-at t) count-node.Post
   count-node-sum-from-requires c κs = (
-    omega (arith, down (c .before .before .args .left) (c .first-row .result) (c .before .if1 .left) (c .first-row .ok)),
-    (row c .right, row c .offsets),
+    omega (arith, depth-down (c .before .before .args .left) (c .first-row .result) (c .before .if1 .left) (c .first-row .ok)),
+    (row c .node-levels, row c .offsets),
   )
 
   count-node-returns : count-node-lts.Need-returns (count-node-claims t) (count-node-at t) count-node.Post
@@ -70,21 +70,24 @@ module _ (t : ℕ) where
 
   -- the child at the lowest offset, and the others
   first : (c : sum-from-lts.After-child (sum-from-claims t) (sum-from-at t) sum-from.Post) →
-      let start = c .before .before .before .before in
-      FirstChild (start .args .left) (start .args .n) (c .child .result) (start .args .rest) (c .before .lowest-of .result .rest)
+      let low = c .before .before in
+      let start = low .before .before .before in
+      FirstChild (start .args .left) (start .args .n) (c .child .result) (start .args .rest) (low .lowest-of .result .rest)
   first c =
-      let start = c .before .before .before .before in
-      first-child _ _ (start .pre .1 .0) (start .pre .1 .1) (c .before .lowest-of .ensures) (c .child .ensures)
+      let low = c .before .before in
+      let start = low .before .before .before in
+      first-child _ _ (start .pre .1 .0) (start .pre .1 .1) (low .lowest-of .ensures) (c .child .ensures)
 
   -- the count over the row is that child's and the others', and it is less than 2 ^ 64
   sum : (c : sum-from-lts.After-child (sum-from-claims t) (sum-from-at t) sum-from.Post) →
-      let at = c .before .before .before .before .args in
-      (length (branches (at .left) (at .n .word) (at .rest)) ≡ length (leaves (at .left) (c .child .result .word)) + length (branches (at .left) (at .n .word) (c .before .lowest-of .result .rest)))
+      let low = c .before .before in
+      let at = low .before .before .before .args in
+      (length (branches (at .left) (at .n .word) (at .rest)) ≡ length (leaves (at .left) (c .child .result .word)) + length (branches (at .left) (at .n .word) (low .lowest-of .result .rest)))
       × (length (branches (at .left) (at .n .word) (at .rest)) < 2 ^ 64)
   sum c =
-      let start = c .before .before .before .before in (
+      let start = c .before .before .before .before .before in (
         simp length-append at (ap length (first c .parts)),
-        branches-fit _ _ _ (levels _ _ (start .pre .1 .0)) (start .pre .1 .1),
+        branches-fit _ _ _ (levels-below _ _ (start .pre .1 .0)) (start .pre .1 .1),
       )
 
   sum-from-cast-result : sum-from-lts.Need-cast-result (sum-from-claims t) (sum-from-at t) sum-from.Post
@@ -98,13 +101,14 @@ module _ (t : ℕ) where
 
   sum-from-count-node-requires : sum-from-lts.Need-count-node-requires (sum-from-claims t) (sum-from-at t) sum-from.Post
   sum-from-count-node-requires c κs =
-      let at = c .before .before .before .before .args in
-      (omega (arith, on (at .left) (zero-lt-suc (at .rest))), first c .right)
+      let at = c .before .before .before .before .before .args in
+      (omega (arith, depth-on (at .left) (zero-lt-suc (at .rest))), first c .node-levels)
 
   sum-from-sum-from-requires : sum-from-lts.Need-sum-from-requires (sum-from-claims t) (sum-from-at t) sum-from.Post
   sum-from-sum-from-requires c κs =
-      let start = c .before .before .before .before .before in
-      (omega (arith, on (start .args .left) (suc-le-suc (c .before .before .lowest-of .ensures .fewer))), (start .pre .1 .0, first (c .before) .others))
+      let low = c .before .before .before in
+      let start = low .before .before .before in
+      (omega (arith, depth-on (start .args .left) (suc-le-suc (low .lowest-of .ensures .fewer))), (start .pre .1 .0, first (c .before) .others))
 
   sum-from-add-result : sum-from-lts.Need-add-result (sum-from-claims t) (sum-from-at t) sum-from.Post
   sum-from-add-result c = omega (arith, sum (c .before .before))

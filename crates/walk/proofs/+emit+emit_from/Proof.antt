@@ -7,12 +7,12 @@ use native.Mathlib.Omega.{arith}
 use borrow.Fn.Kinds.{In}
 use borrow.Fn.PlainCycle.{Measures, is, falls, and}
 use Rattle.words.specs.Tree.{leaves}
-use Rattle.walk.specs.Branches.{Right}
+use Rattle.tables.specs.Levels.{NodeWithLevels}
 use Rattle.walk.specs.Lending.{putAll}
 use Rattle.walk.proofs.Branches.{branches-none}
-use Rattle.walk.proofs.Nodes.{Row, first-row, FirstChild, first-child}
+use Rattle.walk.proofs.Nodes.{Row, row-branches, FirstChild, first-child}
 use Rattle.walk.proofs.Lending.{put-append, put-more}
-use Rattle.walk.proofs.Measure.{depth, down, on}
+use Rattle.walk.proofs.Measure.{depth, depth-down, depth-on}
 use Rattle.walk.proofs.emit.Reads as emit
 use Rattle.walk.proofs.emit.Kinds as emit-kinds
 use Rattle.walk.proofs.+emit+emit_from.Lts-emit as emit-lts
@@ -56,13 +56,13 @@ module _ (t : ℕ) where
   -- the node's first row
   row : (c : emit-lts.After-first-row (emit-claims t) (emit-at t) emit.Post) →
       let start = c .before .before .before in Row (start .args .left) (start .args .n) (c .first-row .result)
-  row c = first-row _ _ (c .before .if1 .left) (c .before .before .before .pre .1) (c .first-row .ensures)
+  row c = row-branches _ _ (c .before .if1 .left) (c .before .before .before .pre .1) (c .first-row .ensures)
 
   emit-emit-from-requires : emit-lts.Need-emit-from-requires (emit-claims t) (emit-at t) emit.Post
   emit-emit-from-requires c κs =
       let at = c .before .before .before .before .args in
       let found = row (c .before) in
-      (omega (arith, down (at .left) (c .before .first-row .result) (c .before .before .if1 .left) (c .before .first-row .ok)), (found .right, found .offsets))
+      (omega (arith, depth-down (at .left) (c .before .first-row .result) (c .before .before .if1 .left) (c .before .first-row .ok)), (found .node-levels, found .offsets))
 
   emit-returns : emit-lts.Need-returns (emit-claims t) (emit-at t) emit.Post
   unfolding leaves putAll
@@ -74,7 +74,7 @@ module _ (t : ℕ) where
   emit-from-put-children-requires : emit-from-lts.Need-put-children-requires (emit-from-claims t) (emit-from-at t) emit-from.Post
   emit-from-put-children-requires c κs =
       let start = c .before .before .before in
-      (subst (λ (k : ℕ). Right (k + 1) (start .args .n)) (c .before .if1 .taken) (start .pre .1 .0), start .pre .1 .1)
+      (subst (λ (k : ℕ). NodeWithLevels (k + 1) (start .args .n)) (c .before .if1 .taken) (start .pre .1 .0), start .pre .1 .1)
 
   emit-from-returns : emit-from-lts.Need-returns (emit-from-claims t) (emit-from-at t) emit-from.Post
   emit-from-returns c = rw (c .before .before .before .before .if1 .taken) (c .before .before .put-children .ensures)
@@ -88,22 +88,25 @@ module _ (t : ℕ) where
 
   -- the child at the lowest offset, and the others
   first : (c : emit-from-lts.After-child (emit-from-claims t) (emit-from-at t) emit-from.Post) →
-      let at = c .before .before .before .before .before .before .args in
-      FirstChild (at .left) (at .n) (c .child .result) (at .rest) (c .before .lowest-of .result .rest)
+      let low = c .before .before in
+      let at = low .before .before .before .before .before .args in
+      FirstChild (at .left) (at .n) (c .child .result) (at .rest) (low .lowest-of .result .rest)
   first c =
-      let start = c .before .before .before .before .before .before in
-      first-child _ _ (start .pre .1 .0) (start .pre .1 .1) (c .before .lowest-of .ensures) (c .child .ensures)
+      let low = c .before .before in
+      let start = low .before .before .before .before .before in
+      first-child _ _ (start .pre .1 .0) (start .pre .1 .1) (low .lowest-of .ensures) (c .child .ensures)
 
   emit-from-emit-requires : emit-from-lts.Need-emit-requires (emit-from-claims t) (emit-from-at t) emit-from.Post
   emit-from-emit-requires c κs =
-      let at = c .before .before .before .before .before .before .before .args in
-      (omega (arith, on (at .left) (zero-lt-suc (at .rest))), first (c .before) .right)
+      let at = c .before .before .before .before .before .before .before .before .args in
+      (omega (arith, depth-on (at .left) (zero-lt-suc (at .rest))), first (c .before) .node-levels)
 
   emit-from-emit-from-requires : emit-from-lts.Need-emit-from-requires (emit-from-claims t) (emit-from-at t) emit-from.Post
   emit-from-emit-from-requires c κs =
       let at-child = c .before .before .before .before .before in
-      let start = at-child .before .before .before .before .before .before in
-      (omega (arith, on (start .args .left) (suc-le-suc (at-child .before .lowest-of .ensures .fewer))), (start .pre .1 .0, first at-child .others))
+      let low = at-child .before .before in
+      let start = low .before .before .before .before .before in
+      (omega (arith, depth-on (start .args .left) (suc-le-suc (low .lowest-of .ensures .fewer))), (start .pre .1 .0, first at-child .others))
 
   emit-from-returns-4 : emit-from-lts.Need-returns-4 (emit-from-claims t) (emit-from-at t) emit-from.Post
   emit-from-returns-4 c =

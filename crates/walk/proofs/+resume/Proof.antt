@@ -1,11 +1,10 @@
 -- The proof of `resume`, which calls itself: the levels below a node are the measure. Assumes nothing.
-use Prim.Native.Nat.{ℕ, _+_, _*_, _/_, _%_, _^_, _<_}
+use Prim.Native.Nat.{ℕ, _<_}
 use mathlib.Core.Path.{_≡_, sym, ap, subst, _∙_}
 use native.Mathlib.Omega.{arith}
-use native.Mathlib.Nat.{mod-eq-of-lt, lt-of-le-of-lt, div-mul-le-self}
 use borrow.Fn.Kinds.{In}
 use borrow.Fn.PlainCycle.{Measures, is, falls, and}
-use Rattle.words.proofs.StandingBits.{above}
+use Rattle.words.specs.Words.{above}
 use Rattle.tables.specs.Nodes.{firstRow}
 use Rattle.walk.specs.Branches.{Offsets}
 use Rattle.walk.specs.Lending.{putAll}
@@ -18,6 +17,7 @@ use Rattle.walk.proofs.+resume.Lts-resume as resume-lts
 use Rattle.tables.proofs.Node.child.Reads as child-reads
 use Rattle.tables.proofs.Node.first_row.Reads as first-row-reads
 use Rattle.tables.proofs.Node.next_offset.Reads as next-offset-reads
+use Rattle.walk.proofs.later.Reads as later-reads
 use Rattle.walk.proofs.emit_from.Reads as emit-from-reads
 use Rattle.walk.proofs.put.Reads as put-reads
 use Rattle.walk.proofs.+resume.{statement}
@@ -46,6 +46,8 @@ module _ (t : ℕ) where
     resume.Post,
     first-row-reads.Asked,
     first-row-reads.Learnt,
+    later-reads.Asked,
+    later-reads.Learnt,
     emit-from-reads.Asked,
     emit-from-reads.Learnt,
   )
@@ -57,35 +59,26 @@ module _ (t : ℕ) where
       let start = c .before .before .before in
       next-child _ _ (c .before .if1 .left) (start .pre .1 .0) _ (start .pre .1 .1) (c .next-offset .ensures)
 
-  -- the bits of the first row above that offset, as they are cut out
-  cut : (c : resume-lts.After-first-row claims at resume.Post) →
+  -- the offsets after that one
+  after : (c : resume-lts.After-later claims at resume.Post) →
       let at-offset = c .before .before .before .before .before .before .before in
-      let d : ℕ = at-offset .next-offset .result .0 in
-      c .first-row .result / 2 ^ (d + 1) * 2 ^ (d + 1) % 2 ^ 64 ≡ above (firstRow (at-offset .before .before .before .args .n)) d
-  cut c =
+      c .later .result ≡ above (firstRow (at-offset .before .before .before .args .n)) (at-offset .next-offset .result .0)
+  after c =
       let at-offset = c .before .before .before .before .before .before .before in
-      let d : ℕ = at-offset .next-offset .result .0 in
-      mod-eq-of-lt (lt-of-le-of-lt (div-mul-le-self (c .first-row .result) (2 ^ (d + 1))) (c .first-row .ok))
-      ∙ ap (λ (row : ℕ). above row d) (c .first-row .ensures)
+      c .later .ensures ∙ ap (λ (row : ℕ). above row (at-offset .next-offset .result .0)) (c .before .first-row .ensures)
 
   resume-requires : resume-lts.Need-resume-requires claims at resume.Post
   resume-requires c κs =
       let b = found (c .before .before) in
       (omega arith, rw (c .before .child .ensures) (b .child, b .leaf))
 
-  add-later : resume-lts.Need-add-later claims at resume.Post
-  add-later c = omega (arith, found (c .before .before .before .before .before .before) .near)
-
-  shr-rest : resume-lts.Need-shr-rest claims at resume.Post
-  shr-rest c = omega (arith, found (c .before .before .before .before .before .before .before) .near)
-
-  shl-rest : resume-lts.Need-shl-rest claims at resume.Post
-  shl-rest c = omega (arith, found (c .before .before .before .before .before .before .before) .near)
+  later-requires : resume-lts.Need-later-requires claims at resume.Post
+  later-requires c κs = omega (arith, found (c .before .before .before .before .before .before) .near)
 
   emit-from-requires : resume-lts.Need-emit-from-requires claims at resume.Post
   emit-from-requires c κs =
       let b = found (c .before .before .before .before .before .before .before .before) in
-      (b .right, subst (Offsets _) (sym (cut (c .before))) (b .offsets))
+      (b .node-levels, subst (Offsets _) (sym (after (c .before))) (b .offsets))
 
   returns : resume-lts.Need-returns claims at resume.Post
   unfolding putAll
@@ -96,9 +89,10 @@ module _ (t : ℕ) where
 
   returns-2 : resume-lts.Need-returns-2 claims at resume.Post
   returns-2 c =
-      let at-resume = c .before .before .before .before .before .before .before .before in
+      let at-later = c .before .before .before .before in
+      let at-resume = at-later .before .before .before .before in
       let b = found (at-resume .before .before .before) in
-      rw (b .parts, put-append, ← at-resume .before .before .child .ensures, ← at-resume .resume .ensures, ← cut (c .before .before .before .before))
+      rw (b .parts, put-append, ← at-resume .before .before .child .ensures, ← at-resume .resume .ensures, ← after at-later)
       (c .before .before .emit-from .ensures)
 
 pub +resume-spec : {M : Type 1} → statement M
@@ -109,10 +103,8 @@ pub +resume-spec : {M : Type 1} → statement M
     (λ c κs. tt)
     (λ c. omega arith)
     (resume-requires t)
-    (add-later t)
     (λ c κs. tt)
-    (shr-rest t)
-    (shl-rest t)
+    (later-requires t)
     (λ c. omega arith)
     (emit-from-requires t)
     (λ c. omega arith)

@@ -55,7 +55,7 @@ use Rattle.walk.proofs.BatchAnswer as R
 use Rattle.walk.proofs.BatchAnswer.Laws as R′
 use Rattle.walk.proofs.Moved as D
 use Rattle.walk.proofs.Moved.Laws as D′
-use Rattle.walk.proofs.Values.{walk-val, moved-val, made, walk-typed, answer-typed, moved-typed}
+use Rattle.walk.proofs.Values.{walk-val, moved-val, moved-made, walk-typed, answer-typed, moved-typed}
 use Rattle.walk.proofs.batch as f
 use Rattle.walk.proofs.batch.Symbol as f-def
 use Rattle.walk.proofs.batch.Symbol.{name as #walk·batch}
@@ -161,10 +161,10 @@ module _ {M : Type 1} (𝓤 : URA M) (H : Heap 𝓤) (A : Atoms 𝓤) (at-mem : 
           -- [_5; Token; the last list; true; room for _10; …; _9; …; _8; …; _7; …; _6; …; what frees _5; _4; …; _3; …; _2; …; _1; …; room for _0; …]
           -- _10 = _5, and _0 = (_10, _6)
           assigns ! (of-opd ! (load ! (from ! (stop !)) (look ! 0 refl))) (from ! (stop !)) (init ! 4 refl (walk-typed 𝓤 H A W (zs .0) iw)) $
-          assigns ! (agg ! (and-then ! (load ! (from ! (stop !)) (look ! 4 refl)) (and-then ! (load ! (from ! (stop !)) (look ! 12 refl)) (no-more !)))) (from ! (stop !)) (init ! 23 refl (moved-typed 𝓤 H A W (record { walk = zs .0; answer = r }) _ (made (record { walk = zs .0; answer = r }) v iw ir))) $
+          assigns ! (agg ! (and-then ! (load ! (from ! (stop !)) (look ! 4 refl)) (and-then ! (load ! (from ! (stop !)) (look ! 12 refl)) (no-more !)))) (from ! (stop !)) (init ! 23 refl (moved-typed 𝓤 H A W (record { walk = zs .0; answer = r }) _ (moved-made (record { walk = zs .0; answer = r }) v iw ir))) $
           returns ! (look ! 23 refl) $ forget ! 0 refl $ forget ! 4 refl $ forget ! 6 refl $ forget ! 8 refl $ forget ! 10 refl $ forget ! 12 refl $ forget ! 15 refl $ forget ! 17 refl $ forget ! 19 refl $ forget ! 21 refl $ forget ! 23 refl $
           move ! (23 ∷ 24 ∷ 21 ∷ 22 ∷ 19 ∷ 20 ∷ 17 ∷ 18 ∷ 15 ∷ 16 ∷ 0 ∷ 14 ∷ 12 ∷ 13 ∷ 10 ∷ 11 ∷ 8 ∷ 9 ∷ 6 ∷ 7 ∷ 4 ∷ 5 ∷ []) $ free1 ! $ free1 ! $ free1 ! $ free1 ! $ free1 ! $ free1 ! $ free1 ! $ free1 ! $ free1 ! $ free1 ! $ free1 ! $ free0 ! $
-          keep ! (0 ∷ 1 ∷ []) $ by ! (exits (record { walk = zs .0; answer = r }) (zs .1 .0) e l (made (record { walk = zs .0; answer = r }) v iw ir)))))))))))))))))))))))
+          keep ! (0 ∷ 1 ∷ []) $ by ! (exits (record { walk = zs .0; answer = r }) (zs .1 .0) e l (moved-made (record { walk = zs .0; answer = r }) v iw ir)))))))))))))))))))))))
 
     batch-from-meets : (𝓣 : Tables 𝓤 H) → Triple 𝓤 (𝓣 .C #walk·batch) Batch → Meets 𝓤 H A batch-from.signature (WpFn 𝓤 H (𝓣 .C) (𝓣 .Λ) code.function) (batch-from.spec 𝓤 H A at-mem run)
     batch-from-meets 𝓣 known =

@@ -3,12 +3,12 @@
 use mathlib.Core.Path.{_≡_, sym, ap, _∙_}
 use native.Mathlib.Omega.{arith}
 use borrow.Author.Needs.{needs}
-use Rattle.words.specs.Answers.{refused, given}
-use Rattle.words.proofs.Answers.{Accepted, word-refused, word-given}
+use Rattle.words.specs.Answers.{refused, given, Accepted}
+use Rattle.words.proofs.Answers.{word-refused, word-given}
 use Rattle.tables.specs.Nodes.{nodeOf}
 use Rattle.tables.specs.Answers.{noded, nodeAnswer}
 use Rattle.walk.specs.Walks.{countOf}
-use Rattle.walk.proofs.Nodes.{accepted-right}
+use Rattle.tables.proofs.Levels.{accepted-levels}
 use Rattle.walk.proofs.Walks.{count-is-0-below}
 use Rattle.walk.proofs.Counts.{count-refused, count-leaves}
 use Rattle.walk.proofs.count.Statement.{statement}
@@ -41,7 +41,7 @@ count-node-requires : tie.Need-count-node-requires
 count-node-requires c κs =
     let at = c .before .before .before .before in
     let start = at .before .before .before in
-    rw (accepted at .1, c .before .genus-of .ensures) (accepted-right _ _ (start .fits .word .fits) (accepted at .0) (omega (arith, c .before .genus-of .ensures)))
+    rw (accepted at .1, c .before .genus-of .ensures) (accepted-levels _ _ (start .fits .word .fits) (accepted at .0) (omega (arith, c .before .genus-of .ensures)))
 
 returns-3 : tie.Need-returns-3
 unfolding countOf nodeAnswer

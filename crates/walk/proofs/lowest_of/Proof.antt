@@ -18,11 +18,11 @@ within c = bit-cleared (c .args .bits) _ (trailing-stands 64 (c .args .bits) (fo
 cast-at : tie.Need-cast-at
 cast-at c = omega (arith, found c)
 
-shl-t4 : tie.Need-shl-t4
-shl-t4 c = found c
+shl-t5 : tie.Need-shl-t5
+shl-t5 c = found c
 
-sub-t5 : tie.Need-sub-t5
-sub-t5 c = rw (one-shl _ (found c)) (within c)
+sub-t6 : tie.Need-sub-t6
+sub-t6 c = rw (one-shl _ (found c)) (within c)
 
 returns : tie.Need-returns
 returns c =
@@ -30,4 +30,4 @@ returns c =
     record { fewer = omega (arith, pow-pos (trailingZeros 64 (c .args .bits)), within c, c .pre); first = positions-step _ (c .pre) (c .fits .bits .fits) }
 
 pub lowest-of-spec : {M : Type 1} → statement M
-lowest-of-spec = tie.close (tie.spec cast-at shl-t4 sub-t5 returns)
+lowest-of-spec = tie.close (tie.spec cast-at shl-t5 sub-t6 returns)

@@ -8,12 +8,13 @@ use borrow.Author.Needs.{needs}
 use Rattle.words.specs.Words.{conductor, childWord}
 use Rattle.words.proofs.Bits.{one-shl}
 use Rattle.words.proofs.Elements.{conductor-pos}
-use Rattle.words.proofs.Children.{Child}
+use Rattle.words.specs.Children.{Child}
 use Rattle.words.specs.Tree.{leaves}
 use Rattle.walk.specs.Branches.{branches, Offsets, TakenOff}
 use Rattle.walk.specs.Lending.{Lent, putOne, putAll}
 use Rattle.walk.proofs.Branches.{branches-none, branches-first, offset-first, offsets-rest, child-of}
-use Rattle.walk.proofs.Nodes.{right-conductor, levels}
+use Rattle.walk.proofs.Nodes.{levels-below}
+use Rattle.tables.proofs.Levels.{node-conductor}
 use Rattle.walk.proofs.put_children.Statement.{statement}
 use Rattle.walk.proofs.put_children.Tie as tie
 use Rattle.walk.proofs.put_children.Reads as reads
@@ -30,25 +31,29 @@ abbrev μ-loop : tie.MeasureT-loop
 
 -- the child at the lowest offset
 child : (c : tie.After-lowest-of Inv-loop μ-loop) →
-    let w : ℕ = c .before .before .before .before .args .n .word in Child w (conductor w + c .lowest-of .result .at)
+    let w : ℕ = c .before .before .before .before .args .n .word in Child w (conductor w + c .lowest-of .result .at .0)
 child c =
     let at-loop = c .before .before in
     let start = at-loop .before .before in
-    child-of 0 _ (levels 0 _ (start .pre .0)) (offset-first 0 _ (c .lowest-of .ensures) (at-loop .loop .inv .0))
+    child-of 0 _ (levels-below 0 _ (start .pre .0)) (offset-first 0 _ (c .lowest-of .ensures) (at-loop .loop .inv .0))
 
--- the conductor that the node carries
-same : (c : tie.After-lowest-of Inv-loop μ-loop) →
-    let n = c .before .before .before .before .args .n in n .conductor ≡ conductor (n .word)
-same c = right-conductor 1 _ (c .before .before .before .before .pre .0)
+-- the element at that offset
+element : (c : tie.After-at-offset Inv-loop μ-loop) →
+    let low = c .before .before in
+    c .at-offset .result .0 ≡ conductor (low .before .before .before .before .args .n .word) + low .lowest-of .result .at .0
+element c =
+    let low = c .before .before in
+    omega (arith, c .at-offset .ensures, child low .low, node-conductor 1 _ (low .before .before .before .before .pre .0))
 
 -- its word, as it is put together
-word : (c : tie.After-lowest-of Inv-loop μ-loop) →
-    let n = c .before .before .before .before .args .n in
-    n .word + 1 * 2 ^ (n .conductor + c .lowest-of .result .at - 1) % 2 ^ 64 ≡ childWord (n .word) (conductor (n .word) + c .lowest-of .result .at)
+word : (c : tie.After-at-offset Inv-loop μ-loop) →
+    let low = c .before .before in
+    let w : ℕ = low .before .before .before .before .args .n .word in
+    w + 1 * 2 ^ (c .at-offset .result .0 - 1) % 2 ^ 64 ≡ childWord w (conductor w + low .lowest-of .result .at .0)
 unfolding childWord
 word c =
-    let n = c .before .before .before .before .args .n in
-    rw (same c) (ap (λ (k : ℕ). n .word + k) (one-shl _ (omega (arith, child c .low))))
+    let low = c .before .before in
+    rw (element c) (ap (λ (k : ℕ). low .before .before .before .before .args .n .word + k) (one-shl _ (omega (arith, child low .low))))
 
 -- to put the child, and then those at the other offsets, is to put all
 put-first : (w : ℕ) {bits at rest : ℕ} → TakenOff bits at rest → (t : Lent)
@@ -62,17 +67,16 @@ loop-holds c = (c .before .pre .1, refl, refl)
 lowest-of-requires : tie.Need-lowest-of-requires Inv-loop μ-loop
 lowest-of-requires c κs = omega arith
 
-add-put : tie.Need-add-put Inv-loop μ-loop
-add-put c = omega (arith, child (c .before) .low, same (c .before))
-
 sub-put : tie.Need-sub-put Inv-loop μ-loop
-sub-put c = omega (arith, conductor-pos (c .before .before .before .before .before .args .n .word), same (c .before))
+sub-put c =
+    let start = c .before .before .before .before .before .before .before in
+    omega (arith, element (c .before), conductor-pos (start .args .n .word))
 
 shl-put : tie.Need-shl-put Inv-loop μ-loop
-shl-put c = omega (arith, child (c .before) .low, same (c .before))
+shl-put c = omega (arith, element (c .before), child (c .before .before .before) .low)
 
-add-put-2 : tie.Need-add-put-2 Inv-loop μ-loop
-add-put-2 c = rw (word (c .before)) record { fits = child (c .before) .fits }
+add-put : tie.Need-add-put Inv-loop μ-loop
+add-put c = rw (word (c .before)) record { fits = child (c .before .before .before) .fits }
 
 put-requires : tie.Need-put-requires Inv-loop μ-loop
 put-requires c κs = search needs
@@ -82,11 +86,12 @@ loop-less c = omega arith
 
 loop-again : tie.Need-loop-again Inv-loop μ-loop
 loop-again c =
-    let low = c .before .before .before .before .before in
+    let there = c .before .before .before .before .before in
+    let low = there .before .before in
     let at = low .before .before .loop in (
       offsets-rest 0 _ (low .lowest-of .ensures) (at .inv .0),
       c .before .before .put .kept .1 .1 .0 ∙ at .inv .1,
-      ap (putAll _) (c .before .before .put .ensures) ∙ rw (word low) (sym (put-first _ (low .lowest-of .ensures) _)) ∙ at .inv .2,
+      ap (putAll _) (c .before .before .put .ensures) ∙ rw (word there) (sym (put-first _ (low .lowest-of .ensures) _)) ∙ at .inv .2,
     )
 
 same-length : tie.Need-same-length Inv-loop μ-loop
@@ -104,10 +109,10 @@ put-children-spec =
     μ-loop
     loop-holds
     lowest-of-requires
-    add-put
+    (λ c κs. search needs)
     sub-put
     shl-put
-    add-put-2
+    add-put
     put-requires
     loop-less
     loop-again

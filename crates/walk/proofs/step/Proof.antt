@@ -6,7 +6,7 @@ use borrow.Author.Needs.{needs}
 use borrow.Author.Tests.{not-true, not-false}
 use Rattle.tables.specs.Nodes.{nodeOf}
 use Rattle.walk.specs.Walks.{inOrder}
-use Rattle.walk.proofs.Nodes.{root-right}
+use Rattle.tables.proofs.Levels.{root-levels}
 use Rattle.walk.proofs.Batches.{walk-leaf, batch-genus, batch-order, batch-finished, batch-put}
 use Rattle.walk.proofs.step.Statement.{statement}
 use Rattle.walk.proofs.step.Tie as tie
@@ -36,7 +36,7 @@ resume-requires c κs =
     let at-order = c .before .before .before .before in
     let start = at-order .before .before .before in
     rw (c .before .root .ensures)
-    (root-right _ (at-order .before .if1 .left), walk-leaf (start .args .walk) (omega (arith, start .good)) (at-order .before .if1 .left) (ordered (c .before .before .before)) (c .before .before .if3 .left))
+    (root-levels _ (at-order .before .if1 .left), walk-leaf (start .args .walk) (omega (arith, start .good)) (at-order .before .if1 .left) (ordered (c .before .before .before)) (c .before .before .if3 .left))
 
 same-length : tie.Need-same-length
 same-length c = search needs
