@@ -18,9 +18,8 @@ use Rattle.words.specs.Sets.{Set}
 use Rattle.words.specs.Words.{bit, positions}
 use Rattle.words.proofs.Booleans.{not-both, is-false, by-value, true-together}
 use Rattle.words.proofs.Lists.{run-mem, mem-run, keep-mem, mem-keep, ordered-run, ordered-keep, ordered-map, ordered-unique, every-mem, every-false, some-more, length-run, getD-map-run}
-use Rattle.words.proofs.Bits.{bit-and, bit-or, bit-not, bit-zero, bit-pow, bit-mod, bit-shl, bit-shl-low, bits-decide}
-use Rattle.tables.proofs.Seeds.{bit-ofBits, ofBits-lt}
-use Rattle.generators.specs.Sums.{memberOf, bitsFrom}
+use Rattle.words.proofs.Bits.{bit-and, bit-or, bit-not, bit-zero, bit-pow, bit-mod, bit-shl, bit-shl-low, bits-decide, bit-ofBits, ofBits-lt}
+use Rattle.generators.specs.BitSets.{memberOf, bitsFrom}
 
 -- ---- 64 numbers as bits
 

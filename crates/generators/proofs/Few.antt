@@ -13,7 +13,7 @@ use Rattle.words.specs.Lists.{run, Ordered}
 use Rattle.words.specs.Sets.{Set, ClosedUnderAddition}
 use Rattle.words.proofs.Booleans.{not-both, is-true, by-value}
 use Rattle.words.proofs.Lists.{run-mem, mem-run, keep-mem, mem-keep, keep-out, ordered-run, ordered-keep}
-use Rattle.words.proofs.Counting.{count, count-up, count-le-length, length-kept, half-gaps}
+use Rattle.words.proofs.Counting.{countBelow, count-up, count-le-length, length-kept, half-gaps}
 use Rattle.generators.specs.Sums.{gapsTo, AtMostGaps}
 
 -- a gap is positive
@@ -38,7 +38,7 @@ module _ (S : Set) where
   gaps-to-ordered n = ordered-keep _<_ _ (run 1 n) (ordered-run 1 n)
 
   -- as many as the numbers below n + 1 that are gaps
-  pub gaps-to-count : S 0 ≡ true → (n : ℕ) → length (gapsTo S n) ≡ count (λ x. not (S x)) (suc n)
+  pub gaps-to-count : S 0 ≡ true → (n : ℕ) → length (gapsTo S n) ≡ countBelow (λ x. not (S x)) (suc n)
   unfolding gapsTo run
   gaps-to-count zero-in n = ap length (sym (keep-out (λ x. not (S x)) 0 (run 1 n) (ap not zero-in))) ∙ length-kept (λ x. not (S x)) (suc n)
 

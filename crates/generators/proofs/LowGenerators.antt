@@ -18,18 +18,18 @@ use Rattle.words.proofs.Booleans.{not-both, is-false, by-value, true-together}
 use Rattle.words.proofs.Lists.{run-mem, mem-run, keep-mem, mem-keep, ordered-run, ordered-keep, ordered-unique, every-mem, every-false, some-more, run-append}
 use Rattle.words.proofs.Bits.{bit-low, bit-not, one-shl}
 use Rattle.words.proofs.Sets.{sum-of, sum-found, same-sums}
-use Rattle.words.proofs.Elements.{conductor-pos}
+use Rattle.words.proofs.Elements.{conductor-pos, generator-parts}
 use Rattle.words.proofs.Closure.{conductor-le-64}
-use Rattle.words.proofs.Answers.{Accepted, word-given}
+use Rattle.words.proofs.Answers.{word-given}
 use Rattle.tables.specs.Seeds.{setBelow}
 use Rattle.tables.specs.Nodes.{nodeOf, firstRow}
 use Rattle.tables.specs.Answers.{nodeAnswer}
 use Rattle.tables.specs.declared.Node.{Node}
 use Rattle.tables.proofs.FirstRow.{right-generators-row}
 use Rattle.tables.proofs.Seeds.{below-in, in-below}
-use Rattle.generators.specs.Sums.{bitsFrom}
-use Rattle.generators.specs.Generators.{minimalGenerators, lowGenerator, Known}
-use Rattle.generators.proofs.MinimalGenerators.{generator-parts, generators-parts}
+use Rattle.generators.specs.BitSets.{bitsFrom, lowGenerator, ConductorAndRow}
+use Rattle.generators.specs.Generators.{minimalGenerators}
+use Rattle.generators.proofs.MinimalGenerators.{generators-parts}
 use Rattle.generators.proofs.BitSets.{bits-from-is, bits-from-same, bits-from-listed, bits-from-none, bits-from-not, bits-from-or, bits-from-and, bits-from-shl}
 
 -- ---- sums of two
@@ -45,23 +45,23 @@ module _ (S : Set) where
 
   module _ (k : ℕ) where
     -- x less k + 1 is a positive element
-    moved : Set
-    moved x = ltb (k + 1) x && S (x - (k + 1))
+    movedUp : Set
+    movedUp x = ltb (k + 1) x && S (x - (k + 1))
 
-    sum-to-more : (x : ℕ) → sumTo S (k + 1) x ≡ (sumTo S k x || (S (k + 1) && moved x))
-    unfolding sumTo moved run
+    sum-to-more : (x : ℕ) → sumTo S (k + 1) x ≡ (sumTo S k x || (S (k + 1) && movedUp x))
+    unfolding sumTo movedUp run
     sum-to-more x =
         let p : ℕ → Bool = λ y. S y && (ltb y x && S (x - y)) in
         ap (λ (l : List ℕ). not (every (λ y. not (p y)) l)) (run-append 1 k 1 ∙ ap (λ (n : ℕ). run 1 k ++ n ∷ []) (add-comm 1 k)) ∙ some-more p (run 1 k) (k + 1)
 
-    more : (b : Bool) → S (k + 1) ≡ b → (x : ℕ) → (sumTo S k x || (b && moved x)) ≡ sumTo S (k + 1) x
-    more b e x = sym (sum-to-more x ∙ ap (λ (b : Bool). sumTo S k x || (b && moved x)) e)
+    more : (b : Bool) → S (k + 1) ≡ b → (x : ℕ) → (sumTo S k x || (b && movedUp x)) ≡ sumTo S (k + 1) x
+    more b e x = sym (sum-to-more x ∙ ap (λ (b : Bool). sumTo S k x || (b && movedUp x)) e)
 
     -- the sums with k + 1 are the elements moved up by it
     pub sums-more : S (k + 1) ≡ true → bitOr (bitsFrom (sumTo S k) 1) (bitsFrom S 1 * 2 ^ (k + 1) % 2 ^ 64) ≡ bitsFrom (sumTo S (k + 1)) 1
-    unfolding moved
+    unfolding movedUp
     sums-more e =
-        ap (bitOr (bitsFrom (sumTo S k) 1)) (bits-from-shl S (k + 1)) ∙ bits-from-or (sumTo S k) moved 1 ∙ ap (λ (T : Set). bitsFrom T 1) (fun-ext (more true e))
+        ap (bitOr (bitsFrom (sumTo S k) 1)) (bits-from-shl S (k + 1)) ∙ bits-from-or (sumTo S k) movedUp 1 ∙ ap (λ (T : Set). bitsFrom T 1) (fun-ext (more true e))
 
     -- where k + 1 is no element there is no sum more
     pub sums-same : S (k + 1) ≡ false → bitsFrom (sumTo S k) 1 ≡ bitsFrom (sumTo S (k + 1)) 1
@@ -94,34 +94,34 @@ module _ (S : Set) where
 -- ---- the elements below the conductor
 
 module _ (w : ℕ) where
-  abbrev pub below : Set
-  below = setBelow w (conductor w)
+  abbrev pub belowConductor : Set
+  belowConductor = setBelow w (conductor w)
 
   -- those that are no sum of two are the generators below it
-  is-low : (x : ℕ) → 0 < x → (below x && not (sumOfTwo below x)) ≡ lowGenerator w x
+  is-low : (x : ℕ) → 0 < x → (belowConductor x && not (sumOfTwo belowConductor x)) ≡ lowGenerator w x
   unfolding setBelow lowGenerator generator
   is-low x pos =
       let c : ℕ = conductor w in
       by-value (ltb x c)
       (λ e.
       let less = ltb-true x c e in
-      let same : sumOfTwo below x ≡ sumOfTwo (setOf w) x =
-      same-sums below (setOf w) x (λ a b p q s i j. below-in w c a i .0) (λ a b p q s i j. in-below w c a i (omega arith)) in
+      let same : sumOfTwo belowConductor x ≡ sumOfTwo (setOf w) x =
+      same-sums belowConductor (setOf w) x (λ a b p q s i j. below-in w c a i .0) (λ a b p q s i j. in-below w c a i (omega arith)) in
       ap₂ (λ (a b : Bool). (setOf w x && a) && not b) e same ∙ ap (λ (a : Bool). a && not (sumOfTwo (setOf w) x)) (and-true (setOf w x))
       ∙ sym (ap₂ (λ (a b : Bool). a && ((b && setOf w x) && not (sumOfTwo (setOf w) x))) e (lt-ltb 0 x pos)))
       (λ e.
-      ap (λ (a : Bool). (setOf w x && a) && not (sumOfTwo below x)) e ∙ ap (λ (a : Bool). a && not (sumOfTwo below x)) (and-false (setOf w x))
+      ap (λ (a : Bool). (setOf w x && a) && not (sumOfTwo belowConductor x)) e ∙ ap (λ (a : Bool). a && not (sumOfTwo belowConductor x)) (and-false (setOf w x))
       ∙ sym (ap (λ (a : Bool). a && generator w x) e))
 
   -- elements less the sums, as bits
-  pub low-bits-found : bitAnd (bitsFrom below 1) (2 ^ 64 - 1 - bitsFrom (sumTo below 63) 1) ≡ bitsFrom (lowGenerator w) 1
+  pub low-bits-found : bitAnd (bitsFrom belowConductor 1) (2 ^ 64 - 1 - bitsFrom (sumTo belowConductor 63) 1) ≡ bitsFrom (lowGenerator w) 1
   low-bits-found =
-      ap (bitAnd (bitsFrom below 1)) (bits-from-not (sumTo below 63) 1) ∙ bits-from-and below (λ x. not (sumTo below 63 x)) 1
-      ∙ bits-from-same (λ x. below x && not (sumTo below 63 x)) (lowGenerator w) 1
-      (λ x l h. ap (λ (b : Bool). below x && not b) (sum-to-all below x (omega arith)) ∙ is-low x l)
+      ap (bitAnd (bitsFrom belowConductor 1)) (bits-from-not (sumTo belowConductor 63) 1) ∙ bits-from-and belowConductor (λ x. not (sumTo belowConductor 63 x)) 1
+      ∙ bits-from-same (λ x. belowConductor x && not (sumTo belowConductor 63 x)) (lowGenerator w) 1
+      (λ x l h. ap (λ (b : Bool). belowConductor x && not b) (sum-to-all belowConductor x (omega arith)) ∙ is-low x l)
 
   module _ (fits : w < 2 ^ 64) (low : conductor w ≤ 64) where
-    pub below-bits : bitAnd (2 ^ 64 - 1 - w) (1 * 2 ^ (conductor w - 1) % 2 ^ 64 - 1) ≡ bitsFrom below 1
+    pub below-bits : bitAnd (2 ^ 64 - 1 - w) (1 * 2 ^ (conductor w - 1) % 2 ^ 64 - 1) ≡ bitsFrom belowConductor 1
     unfolding setBelow setOf
     below-bits =
         let c : ℕ = conductor w in
@@ -129,10 +129,10 @@ module _ (w : ℕ) where
         let n : ℕ = 2 ^ 64 - 1 - w in
         let last : suc (c - 1) ≡ c = omega arith in
         ap (λ (m : ℕ). bitAnd n (m - 1)) (one-shl (c - 1) (omega arith)) ∙ and-mask n (c - 1)
-        ∙ bits-from-is below 1 (n % 2 ^ (c - 1)) (omega (arith, mod-le n (2 ^ (c - 1))))
+        ∙ bits-from-is belowConductor 1 (n % 2 ^ (c - 1)) (omega (arith, mod-le n (2 ^ (c - 1))))
         (λ j h.
         let next : suc j ≡ 1 + j = omega arith in
-        bit-low n (c - 1) j ∙ ap₂ _&&_ (bit-not 64 w j fits h) (sym (leb·suc-suc (suc j) (c - 1)) ∙ ap (ltb (suc j)) last) ∙ ap below next)
+        bit-low n (c - 1) j ∙ ap₂ _&&_ (bit-not 64 w j fits h) (sym (leb·suc-suc (suc j) (c - 1)) ∙ ap (ltb (suc j)) last) ∙ ap belowConductor next)
 
     -- the bits list the generators below the conductor
     pub low-listed : map (λ d. 1 + d) (positions (bitsFrom (lowGenerator w) 1)) ≡ keep (generator w) (run 0 (conductor w))
@@ -154,19 +154,16 @@ module _ (w : ℕ) where
 -- ---- the minimal generators of an accepted word
 
 -- the node of a word tells what is to be known
-pub node-known : (w : ℕ) (n : Node) (row : ℕ) → nodeAnswer w ≡ given n → row ≡ firstRow n → Known w (n .conductor) row
+pub node-known : (w : ℕ) (n : Node) (row : ℕ) → nodeAnswer w ≡ given n → row ≡ firstRow n → ConductorAndRow w (n .conductor) row
 unfolding nodeAnswer nodeOf firstRow
 node-known w n row e r =
     let (h, same) = word-given w (nodeOf w) n e in
-    record { few = h .few; sums = h .sums; conductor-is = ap (λ (k : Node). k .conductor) same; row-is = r ∙ ap firstRow same }
+    record { accepted = h; conductor-is = ap (λ (k : Node). k .conductor) same; row-is = r ∙ ap firstRow same }
 
-module _ {w c row : ℕ} (fits : w < 2 ^ 64) (known : Known w c row) where
-  pub known-accepted : Accepted w
-  known-accepted = record { sums = known .sums; few = known .few }
-
+module _ {w c row : ℕ} (fits : w < 2 ^ 64) (known : ConductorAndRow w c row) where
   -- its conductor is at most 64
   pub conductor-small : c ≤ 64
-  conductor-small = omega (arith, known .conductor-is, conductor-le-64 w fits (known .sums) (known .few))
+  conductor-small = omega (arith, known .conductor-is, conductor-le-64 w fits (known .accepted .closed) (known .accepted .few))
 
   -- they are those of the bits below the conductor, and of the bits of the first row of the seed table
   pub generators-listed : (low : ℕ) → low ≡ bitsFrom (lowGenerator w) 1
@@ -174,7 +171,7 @@ module _ {w c row : ℕ} (fits : w < 2 ^ 64) (known : Known w c row) where
   generators-listed low e =
       generators-parts w fits
       ∙ ap₂ _++_ (sym (low-listed w fits (omega (arith, conductor-small, known .conductor-is))) ∙ ap (λ (n : ℕ). map (λ d. 1 + d) (positions n)) (sym e))
-      (right-generators-row w fits (known .sums) (known .few) ∙ ap₂ (λ (n k : ℕ). map (λ d. k + d) (positions n)) (sym (known .row-is)) (sym (known .conductor-is)))
+      (right-generators-row w fits (known .accepted .closed) (known .accepted .few) ∙ ap₂ (λ (n k : ℕ). map (λ d. k + d) (positions n)) (sym (known .row-is)) (sym (known .conductor-is)))
 
   -- their number
   pub generators-length : (low : ℕ) → low ≡ bitsFrom (lowGenerator w) 1

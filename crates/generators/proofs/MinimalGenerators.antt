@@ -1,50 +1,33 @@
 -- The minimal generators of a word: they are all its generators, and the elements are their sums. Assumes nothing.
-use Prim.Native.Nat.{ℕ, zero, suc, _+_, _^_, _≤_, _<_, _∣_}
+use Prim.Native.Nat.{ℕ, zero, suc, _+_, _*_, _/_, _%_, _^_, _≤_, _<_, _∣_}
 use mathlib.Core.Path.{_≡_, refl, sym, ap, subst, _∙_}
-use mathlib.Core.Bool.{Bool, true, false, not, _&&_, and-eq-true-iff}
-use mathlib.Core.List.{List, _++_, List·Memᴰ, Memᴰ·cast}
+use mathlib.Core.Logic.{_≢_}
+use mathlib.Core.Bool.{Bool, true, false}
+use mathlib.Core.List.{List, _++_, map, List·Memᴰ, Memᴰ·cast, Memᴰ·of-map}
 use native.Mathlib.Omega.{arith}
-use native.Mathlib.Nat.{le-dest, le-refl, dvd-add-iff-right, eq-one-of-dvd-one}
-use lib.Dec.{ltb, leb}
-use lib.ListN.{length}
-use borrow.Author.Tests.{ltb-true, ltb-false, lt-ltb, leb-true, le-leb, lt-leb, not-true}
-use Rattle.words.specs.Lists.{run, keep, Ordered}
+use native.Mathlib.Nat.{le-refl, le-dest, zero-mul, suc-mul, add-mul, div-add-mod', mod-lt, lt-of-mul-lt-mul-right, dvd-add-iff-right, eq-one-of-dvd-one}
+use lib.Dec.{leb}
+use lib.ListN.{length, length-map}
+use borrow.Author.Tests.{leb-true, le-leb, lt-leb}
+use Rattle.words.specs.Lists.{run, keep, Ordered, fronted}
 use Rattle.words.specs.Sets.{sumOfTwo}
 use Rattle.words.specs.Words.{setOf, genus, conductor, closed}
 use Rattle.words.specs.Elements.{multiplicity, generator, rightGenerators}
-use Rattle.words.specs.Answers.{given, ask, askWord}
+use Rattle.words.specs.Answers.{refused, given, ask, askWord, Accepted}
 use Rattle.words.proofs.Booleans.{not-both, by-value, true-together}
-use Rattle.words.proofs.Lists.{mem-run, run-below, keep-mem, mem-keep, keep-append, ordered-run, ordered-keep}
+use Rattle.words.proofs.Lists.{mem-run, run-below, keep-mem, mem-keep, keep-append, ordered-run, ordered-keep, ordered-map}
 use Rattle.words.proofs.Sets.{sum-of, sum-found}
-use Rattle.words.proofs.Elements.{multiplicity-le-conductor, element-from-conductor, generator-offset}
+use Rattle.words.proofs.Counting.{count-not, length-le-count}
+use Rattle.words.proofs.Elements.{multiplicity-in, multiplicity-pos, multiplicity-le-genus, multiplicity-le-conductor, element-from-conductor, generator-parts, generator-of, generator-below}
 use Rattle.words.proofs.Closure.{closed-iff, conductor-le-64}
-use Rattle.words.proofs.Answers.{Accepted, asked}
+use Rattle.words.proofs.Answers.{asked}
 use Rattle.generators.specs.Divisors.{gcdOf}
 use Rattle.generators.specs.Sums.{SumOf, spans}
-use Rattle.generators.specs.Generators.{minimalGenerators, written, Listing, unchanged, filled, generatorsOf}
+use Rattle.generators.specs.Generators.{minimalGenerators, ListAnswer, unchanged, filled, generatorsOf}
 use Rattle.generators.proofs.Divisors.{gcd-divides}
 use Rattle.generators.proofs.Sums.{sum-zero, sum-add, sum-member, sum-split, spans-iff, sum-in, divides-sum}
 
--- a generator is a positive element that is no sum of two positive elements
-pub generator-parts : (w x : ℕ) → generator w x ≡ true → (0 < x) × (setOf w x ≡ true) × (sumOfTwo (setOf w) x ≡ false)
-unfolding generator
-generator-parts w x e =
-    let (p, q) = and-eq-true-iff (ltb 0 x && setOf w x) (not (sumOfTwo (setOf w) x)) .0 e in
-    let (r, s) = and-eq-true-iff (ltb 0 x) (setOf w x) .0 p in
-    (ltb-true 0 x r, s, not-true _ q)
-
--- and what is one is a generator
-pub generator-of : (w x : ℕ) → 0 < x → setOf w x ≡ true → sumOfTwo (setOf w) x ≡ false → generator w x ≡ true
-unfolding generator
-generator-of w x pos e f = rw (lt-ltb 0 x pos, e, f)
-
 module _ (w : ℕ) (fits : w < 2 ^ 64) where
-  -- each lies below the conductor plus the multiplicity
-  pub generator-below : (x : ℕ) → generator w x ≡ true → x < conductor w + multiplicity w
-  generator-below x e =
-      by-value (ltb x (conductor w)) (λ l. omega (arith, ltb-true x (conductor w) l))
-      (λ l. let (d, q) = le-dest (ltb-false x (conductor w) l) in omega (arith, generator-offset w fits d (ap (generator w) q ∙ e)))
-
   -- the list holds just the generators
   pub generators-mem : {x : ℕ} → List·Memᴰ x (minimalGenerators w) → generator w x ≡ true
   unfolding minimalGenerators
@@ -55,7 +38,7 @@ module _ (w : ℕ) (fits : w < 2 ^ 64) where
   unfolding minimalGenerators
   mem-generators x e =
       mem-keep (generator w) (run 0 (conductor w + multiplicity w))
-      (mem-run 0 (conductor w + multiplicity w) (omega arith) (omega (arith, generator-below x e))) e
+      (mem-run 0 (conductor w + multiplicity w) (omega arith) (omega (arith, generator-below w fits x e))) e
 
   -- in rising order
   pub generators-ordered : Ordered _<_ (minimalGenerators w)
@@ -70,7 +53,48 @@ module _ (w : ℕ) (fits : w < 2 ^ 64) where
 
   -- a generator of a word of genus at most 32 is below 128
   pub generator-lt-128 : closed w ≡ true → genus w ≤ 32 → (x : ℕ) → generator w x ≡ true → x < 128
-  generator-lt-128 c h x e = omega (arith, generator-below x e, conductor-le-64 w fits c h, multiplicity-le-conductor w fits)
+  generator-lt-128 c h x e = omega (arith, generator-below w fits x e, conductor-le-64 w fits c h, multiplicity-le-conductor w fits)
+
+  -- ---- how many they are
+
+  module _ (c : closed w ≡ true) where
+    abbrev m : ℕ
+    m = multiplicity w
+
+    -- the multiples of the multiplicity are elements
+    multiple-in : (k : ℕ) → setOf w (k * m) ≡ true
+    unfolding setOf
+    multiple-in zero = ap (setOf w) (zero-mul m)
+    multiple-in (suc k) = ap (setOf w) (suc-mul k m) ∙ closed-iff w fits .0 c (k * m) m (multiple-in k) (multiplicity-in w fits)
+
+    -- of two numbers that leave the same remainder on division by the multiplicity, the larger is no generator where the smaller is
+    remainders-differ : {x y : ℕ} → x < y → generator w x ≡ true → generator w y ≡ true → x % m ≢ y % m
+    remainders-differ {x} {y} less g h same =
+        let (x-pos, x-in, x-alone) = generator-parts w x g in
+        let (y-pos, y-in, y-alone) = generator-parts w y h in
+        let fewer : x / m < y / m = lt-of-mul-lt-mul-right m (omega (arith, div-add-mod' x m, div-add-mod' y m)) in
+        let (k, parts) = le-dest fewer in
+        let between : y / m * m ≡ x / m * m + suc k * m =
+        ap (λ (q : ℕ). q * m) (sym parts) ∙ omega (arith, add-mul (suc (x / m)) k m, suc-mul (x / m) m, suc-mul k m) in
+        not-both
+        (sum-found (setOf w) y x (suc k * m) x-pos (omega (arith, suc-mul k m, multiplicity-pos w fits)) (omega (arith, div-add-mod' x m, div-add-mod' y m)) x-in (multiple-in (suc k)))
+        y-alone
+
+    -- so that they are at most as many as the multiplicity, and at most 33 where the genus is at most 32
+    pub generators-number : length (minimalGenerators w) ≤ multiplicity w
+    generators-number =
+        let remainders : List ℕ = map (λ x. x % m) (minimalGenerators w) in
+        omega (
+          arith,
+          length-map (minimalGenerators w) (λ x. x % m),
+          length-le-count (λ x. true) m remainders
+              (ordered-map _<_ _≢_ (λ x. x % m) (minimalGenerators w) generators-ordered (λ x y i j less. remainders-differ less (generators-mem i) (generators-mem j)))
+              (λ r i. let (x, j, e) = Memᴰ·of-map (λ x. x % m) (minimalGenerators w) i in (subst (λ (n : ℕ). n < m) e (mod-lt x (multiplicity-pos w fits)), refl)),
+          count-not (λ x. true) m,
+        )
+
+    pub generators-le-33 : genus w ≤ 32 → length (minimalGenerators w) ≤ 33
+    generators-le-33 few = omega (arith, generators-number, multiplicity-le-genus w fits)
 
   -- ---- the sums of generators
 
@@ -121,22 +145,40 @@ module _ (w : ℕ) (fits : w < 2 ^ 64) where
 -- ---- what the call answers
 
 module _ (w : ℕ) (lent : List ℕ) where
+  -- the ending by the three questions
+  abbrev by-tests : Bool → Bool → Bool → ListAnswer
+  by-tests few sums holds = ask few (unchanged lent 1) (ask sums (unchanged lent 2) (ask holds (unchanged lent 6) (filled w lent)))
+
   -- the number of generators and the list are told just of accepted words
   pub generators-given : (l : List ℕ) (n : ℕ) → generatorsOf w lent ≡ record { answer = given n; list = l }
-      → Accepted w × (n ≡ length (minimalGenerators w)) × (l ≡ written (minimalGenerators w) lent)
+      → Accepted w × (n ≡ length (minimalGenerators w)) × (l ≡ fronted (minimalGenerators w) lent)
   unfolding generatorsOf askWord
   generators-given l n e = by-questions (leb (genus w) 32) refl (closed w) refl (leb (length (minimalGenerators w)) (length lent)) e
     where
       by-questions : (few : Bool) → leb (genus w) 32 ≡ few → (sums : Bool) → closed w ≡ sums → (holds : Bool)
-          → ask few (unchanged lent 1) (ask sums (unchanged lent 2) (ask holds (unchanged lent 6) (filled w lent))) ≡ record { answer = given n; list = l }
-          → Accepted w × (n ≡ length (minimalGenerators w)) × (l ≡ written (minimalGenerators w) lent)
+          → by-tests few sums holds ≡ record { answer = given n; list = l }
+          → Accepted w × (n ≡ length (minimalGenerators w)) × (l ≡ fronted (minimalGenerators w) lent)
       by-questions true p true q true e =
-          let same : given (length (minimalGenerators w)) ≡ given n = ap (λ (r : Listing). r .answer) e in
+          let same : given (length (minimalGenerators w)) ≡ given n = ap (λ (r : ListAnswer). r .answer) e in
           let count : n ≡ length (minimalGenerators w) = cc in
-          (record { sums = q; few = leb-true (genus w) 32 p }, count, sym (ap (λ (r : Listing). r .list) e))
-      by-questions true p true q false e = let z : _≡_ {A = ℕ} 0 1 = cc (ap (λ (r : Listing). r .answer) e) in absurd (omega arith)
-      by-questions true p false q holds e = let z : _≡_ {A = ℕ} 0 1 = cc (ap (λ (r : Listing). r .answer) e) in absurd (omega arith)
-      by-questions false p sums q holds e = let z : _≡_ {A = ℕ} 0 1 = cc (ap (λ (r : Listing). r .answer) e) in absurd (omega arith)
+          (record { closed = q; few = leb-true (genus w) 32 p }, count, sym (ap (λ (r : ListAnswer). r .list) e))
+      by-questions true p true q false e = let z : _≡_ {A = ℕ} 0 1 = cc (ap (λ (r : ListAnswer). r .answer) e) in absurd (omega arith)
+      by-questions true p false q holds e = let z : _≡_ {A = ℕ} 0 1 = cc (ap (λ (r : ListAnswer). r .answer) e) in absurd (omega arith)
+      by-questions false p sums q holds e = let z : _≡_ {A = ℕ} 0 1 = cc (ap (λ (r : ListAnswer). r .answer) e) in absurd (omega arith)
+
+  -- a refusal writes nothing
+  pub refusal-unchanged : (n : ℕ) → generatorsOf w lent .answer ≡ refused n → generatorsOf w lent ≡ unchanged lent n
+  unfolding generatorsOf askWord
+  refusal-unchanged n e = by-questions (leb (genus w) 32) (closed w) (leb (length (minimalGenerators w)) (length lent)) e
+    where
+      unchanged-as : (m : ℕ) → unchanged lent m .answer ≡ refused n → unchanged lent m ≡ unchanged lent n
+      unchanged-as m e = let same : m ≡ n = cc in ap (unchanged lent) same
+
+      by-questions : (few sums holds : Bool) → by-tests few sums holds .answer ≡ refused n → by-tests few sums holds ≡ unchanged lent n
+      by-questions true true true e = absurd (let z : _≡_ {A = ℕ} 0 1 = cc in omega arith)
+      by-questions true true false e = unchanged-as 6 e
+      by-questions true false holds e = unchanged-as 2 e
+      by-questions false sums holds e = unchanged-as 1 e
 
   module _ (h : Accepted w) where
     generators-asked : generatorsOf w lent ≡ ask (leb (length (minimalGenerators w)) (length lent)) (unchanged lent 6) (filled w lent)

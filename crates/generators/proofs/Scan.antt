@@ -20,7 +20,8 @@ use Rattle.words.proofs.Lists.{keep-more-in, keep-more-out}
 use Rattle.words.proofs.Bits.{bit-and, bit-or, bit-zero, digit-lt, bit-pow, bit-shl, bit-shl-low, bit-mod, one-shl, clear-disjoint, bit-digit}
 use Rattle.words.proofs.Words.{GapList, word-gaps, word-append}
 use Rattle.words.proofs.StandingBits.{some-stands}
-use Rattle.generators.specs.Sums.{SumOf, spans, sumsDown, gapsTo, memberOf, bitsFrom}
+use Rattle.generators.specs.Sums.{SumOf, spans, sumsDown, gapsTo}
+use Rattle.generators.specs.BitSets.{memberOf, bitsFrom}
 use Rattle.generators.proofs.Sums.{sum-more, sum-member, sum-split, spans-iff}
 use Rattle.generators.proofs.Few.{gaps-to-mem, gaps-to-ordered}
 use Rattle.generators.proofs.BitSets.{bits-from-bit, bits-from-lt, bits-from-is, member-iff}
@@ -56,64 +57,64 @@ word-out S n h e =
 -- ---- the last 64 numbers
 
 -- i numbers before k there is a number, and it is in S
-unfoldable pub before : Set → ℕ → Set
-before S k i = leb i k && S (k - i)
+unfoldable pub downFrom : Set → ℕ → Set
+downFrom S k i = leb i k && S (k - i)
 
-before-none : (S : Set) (k : ℕ) → before S k 0 ≡ S k
-unfolding before
-before-none S k = ap (λ (b : Bool). b && S (k - 0)) (leb·zero k) ∙ ap S (sub-zero k)
+down-from-none : (S : Set) (k : ℕ) → downFrom S k 0 ≡ S k
+unfolding downFrom
+down-from-none S k = ap (λ (b : Bool). b && S (k - 0)) (leb·zero k) ∙ ap S (sub-zero k)
 
-before-more : (S : Set) (k i : ℕ) → before S (k + 1) (suc i) ≡ before S k i
-unfolding before
-before-more S k i =
+down-from-more : (S : Set) (k i : ℕ) → downFrom S (k + 1) (suc i) ≡ downFrom S k i
+unfolding downFrom
+down-from-more S k i =
     let less : k + 1 - suc i ≡ k - i = omega arith in
     ap₂ _&&_ (ap (leb (suc i)) (add-one k) ∙ leb·suc-suc i k) (ap S less)
 
 -- the next number shifted in
-pub shift-in : (S : Set) (k : ℕ) → bitOr (bitsFrom (before S k) 0 * 2 ^ 1 % 2 ^ 64) (digit (S (k + 1))) ≡ bitsFrom (before S (k + 1)) 0
+pub shift-in : (S : Set) (k : ℕ) → bitOr (bitsFrom (downFrom S k) 0 * 2 ^ 1 % 2 ^ 64) (digit (S (k + 1))) ≡ bitsFrom (downFrom S (k + 1)) 0
 shift-in S k =
-    bits-from-is (before S (k + 1)) 0 (bitOr moved (digit b))
-    (or-lt 64 moved (digit b) (mod-lt (bitsFrom (before S k) 0 * 2 ^ 1) (pow-pos 64)) (omega (arith, digit-lt b)))
-    (λ j h. bit-or moved (digit b) j ∙ ap₂ _||_ (bit-mod (bitsFrom (before S k) 0 * 2 ^ 1) 64 j h) (bit-digit b j) ∙ at j h ∙ ap (before S (k + 1)) (sym (zero-add j)))
+    bits-from-is (downFrom S (k + 1)) 0 (bitOr shiftedUp (digit b))
+    (or-lt 64 shiftedUp (digit b) (mod-lt (bitsFrom (downFrom S k) 0 * 2 ^ 1) (pow-pos 64)) (omega (arith, digit-lt b)))
+    (λ j h. bit-or shiftedUp (digit b) j ∙ ap₂ _||_ (bit-mod (bitsFrom (downFrom S k) 0 * 2 ^ 1) 64 j h) (bit-digit b j) ∙ at j h ∙ ap (downFrom S (k + 1)) (sym (zero-add j)))
   where
     b : Bool
     b = S (k + 1)
 
-    moved : ℕ
-    moved = bitsFrom (before S k) 0 * 2 ^ 1 % 2 ^ 64
+    shiftedUp : ℕ
+    shiftedUp = bitsFrom (downFrom S k) 0 * 2 ^ 1 % 2 ^ 64
 
-    at : (j : ℕ) → j < 64 → (bit (bitsFrom (before S k) 0 * 2 ^ 1) j || eqb j 0 && b) ≡ before S (k + 1) j
-    at zero h = ap (λ (a : Bool). a || b) (bit-shl-low (bitsFrom (before S k) 0) 1 0 (omega arith)) ∙ sym (before-none S (k + 1))
+    at : (j : ℕ) → j < 64 → (bit (bitsFrom (downFrom S k) 0 * 2 ^ 1) j || eqb j 0 && b) ≡ downFrom S (k + 1) j
+    at zero h = ap (λ (a : Bool). a || b) (bit-shl-low (bitsFrom (downFrom S k) 0) 1 0 (omega arith)) ∙ sym (down-from-none S (k + 1))
     at (suc i) h =
         let next : suc i ≡ 1 + i = omega arith in
-        ap₂ (λ (a c : Bool). a || c && b) (ap (bit (bitsFrom (before S k) 0 * 2 ^ 1)) next ∙ bit-shl (bitsFrom (before S k) 0) 1 i ∙ bits-from-bit (before S k) 0 i (omega arith) ∙ ap (before S k) (zero-add i)) (eqb·suc-zero i)
-        ∙ or-false (before S k i) ∙ sym (before-more S k i)
+        ap₂ (λ (a c : Bool). a || c && b) (ap (bit (bitsFrom (downFrom S k) 0 * 2 ^ 1)) next ∙ bit-shl (bitsFrom (downFrom S k) 0) 1 i ∙ bits-from-bit (downFrom S k) 0 i (omega arith) ∙ ap (downFrom S k) (zero-add i)) (eqb·suc-zero i)
+        ∙ or-false (downFrom S k i) ∙ sym (down-from-more S k i)
 
 -- ---- the next sum
 
 module _ (A : List ℕ) (k : ℕ) (low : k < 127) where
   seen : ℕ
-  seen = bitsFrom (before (spans A) k) 0
+  seen = bitsFrom (downFrom (spans A) k) 0
 
   members : ℕ
   members = bitsFrom (memberOf A) 1
 
-  seen-bit : (j : ℕ) → j < 64 → bit (bitAnd seen members) j ≡ (before (spans A) k j && memberOf A (suc j))
+  seen-bit : (j : ℕ) → j < 64 → bit (bitAnd seen members) j ≡ (downFrom (spans A) k j && memberOf A (suc j))
   unfolding seen members
   seen-bit j h =
       let next : 1 + j ≡ suc j = omega arith in
       bit-and seen members j
-      ∙ ap₂ _&&_ (bits-from-bit (before (spans A) k) 0 j h ∙ ap (before (spans A) k) (zero-add j)) (bits-from-bit (memberOf A) 1 j h ∙ ap (memberOf A) next)
+      ∙ ap₂ _&&_ (bits-from-bit (downFrom (spans A) k) 0 j h ∙ ap (downFrom (spans A) k) (zero-add j)) (bits-from-bit (memberOf A) 1 j h ∙ ap (memberOf A) next)
 
   -- a sum of a member up to 64 and a sum shows in the bits
   low-member : (a x : ℕ) → 0 < a → a ≤ 64 → List·Memᴰ a A → SumOf A x → a + x ≡ k + 1 → bitAnd seen members ≢ 0
-  unfolding before
+  unfolding downFrom
   low-member a x pos h m s e none =
       let j : ℕ = a - 1 in
       let next : a ≡ suc j = omega arith in
       let rest : x ≡ k - j = omega arith in
       not-both
-      (and-eq-true-iff (before (spans A) k j) (memberOf A (suc j)) .1 (
+      (and-eq-true-iff (downFrom (spans A) k j) (memberOf A (suc j)) .1 (
         and-eq-true-iff (leb j k) (spans A (k - j)) .1 (le-leb j k (omega arith), spans-iff A (k - j) .1 (subst (SumOf A) rest s)),
         member-iff A (suc j) .1 (subst (λ (y : ℕ). List·Memᴰ y A) next m),
       ))
@@ -129,15 +130,15 @@ module _ (A : List ℕ) (k : ℕ) (low : k < 127) where
       bits-from-bit (memberOf A) 65 (k - 64) (omega arith) ∙ ap (memberOf A) same
 
   shown : (not (eqb (bitAnd seen members) 0) || high) ≡ true → spans A (k + 1) ≡ true
-  unfolding high before seen members
+  unfolding high downFrom seen members
   shown e =
       by-value (eqb (bitAnd seen members) 0)
       (λ z.
       let (over, b) = and-eq-true-iff (leb 64 k) (bit (bitsFrom (memberOf A) 65) (k - 64)) .0 (ap (λ (t : Bool). not t || high) (sym z) ∙ e) in
       spans-iff A (k + 1) .1 (sum-member A (member-iff A (k + 1) .0 (sym (high-bit (leb-true 64 k over)) ∙ b))))
       (λ f.
-      let (j, h, b) = some-stands 64 (bitAnd seen members) (and-lt 64 seen members (bits-from-lt (before (spans A) k) 0) (bits-from-lt (memberOf A) 1)) (eqb-false _ 0 f) in
-      let (p, m) = and-eq-true-iff (before (spans A) k j) (memberOf A (suc j)) .0 (sym (seen-bit j h) ∙ b) in
+      let (j, h, b) = some-stands 64 (bitAnd seen members) (and-lt 64 seen members (bits-from-lt (downFrom (spans A) k) 0) (bits-from-lt (memberOf A) 1)) (eqb-false _ 0 f) in
+      let (p, m) = and-eq-true-iff (downFrom (spans A) k j) (memberOf A (suc j)) .0 (sym (seen-bit j h) ∙ b) in
       let (within, s) = and-eq-true-iff (leb j k) (spans A (k - j)) .0 p in
       let l = leb-true j k within in
       let whole : suc j + (k - j) ≡ k + 1 = omega arith in
@@ -166,7 +167,7 @@ module _ (A : List ℕ) (k : ℕ) (low : k < 127) where
       by-low a x pos h m s e = ap (λ (b : Bool). not b || high) (ne-eqb (bitAnd seen members) 0 (low-member a x pos h m s e))
 
   -- k + 1 is a sum where it is a member from 65 on, or one of the last 64 numbers is a sum that is a member less than it
-  pub next-sum : (not (eqb (bitAnd (bitsFrom (before (spans A) k) 0) (bitsFrom (memberOf A) 1)) 0) || leb 64 k && bit (bitsFrom (memberOf A) 65) (k - 64)) ≡ spans A (k + 1)
+  pub next-sum : (not (eqb (bitAnd (bitsFrom (downFrom (spans A) k) 0) (bitsFrom (memberOf A) 1)) 0) || leb 64 k && bit (bitsFrom (memberOf A) 65) (k - 64)) ≡ spans A (k + 1)
   unfolding high seen members
   next-sum = true-together _ (spans A (k + 1)) shown shows
 
@@ -174,13 +175,13 @@ module _ (A : List ℕ) (k : ℕ) (low : k < 127) where
 
 -- which of the last 64 numbers up to k are sums, the gaps up to 64 as a word, and the number of gaps
 pub record Scanned (A : List ℕ) (k seen word count : ℕ) : Type 0 where
-  pub last : seen ≡ bitsFrom (before (spans A) k) 0
+  pub last : seen ≡ bitsFrom (downFrom (spans A) k) 0
   pub gaps : word ≡ wordOf (gapsTo (spans A) (min k 64))
   pub many : count ≡ length (gapsTo (spans A) k)
 
 -- at first only 0 is one
-first-seen : (A : List ℕ) (j : ℕ) → eqb j 0 ≡ before (spans A) 0 j
-unfolding before spans sumsDown
+first-seen : (A : List ℕ) (j : ℕ) → eqb j 0 ≡ downFrom (spans A) 0 j
+unfolding downFrom spans sumsDown
 first-seen A zero = refl
 first-seen A (suc i) = eqb·suc-zero i ∙ ap (λ (b : Bool). b && spans A (0 - suc i)) (sym (leb·suc-zero i))
 
@@ -188,7 +189,7 @@ first-seen A (suc i) = eqb·suc-zero i ∙ ap (λ (b : Bool). b && spans A (0 - 
 pub scan-start : (A : List ℕ) → Scanned A 0 1 0 0
 unfolding gapsTo run keep wordOf
 scan-start A = record {
-  last = bits-from-is (before (spans A) 0) 0 1 (omega arith) (λ j h. bit-pow 0 j ∙ first-seen A j ∙ ap (before (spans A) 0) (sym (zero-add j)));
+  last = bits-from-is (downFrom (spans A) 0) 0 1 (omega arith) (λ j h. bit-pow 0 j ∙ first-seen A j ∙ ap (downFrom (spans A) 0) (sym (zero-add j)));
   gaps = refl;
   many = refl;
 }
@@ -199,7 +200,7 @@ module _ {A : List ℕ} {k seen word count : ℕ} (s : Scanned A k seen word cou
       → (not (eqb (bitAnd seen low) 0) || leb 64 k && bit high (k - 64)) ≡ spans A (k + 1)
   scan-next low high p q h = rw (s .last, p, q) (next-sum A k h)
 
-  shifted : (b : Bool) → spans A (k + 1) ≡ b → bitOr (seen * 2 ^ 1 % 2 ^ 64) (digit b) ≡ bitsFrom (before (spans A) (k + 1)) 0
+  shifted : (b : Bool) → spans A (k + 1) ≡ b → bitOr (seen * 2 ^ 1 % 2 ^ 64) (digit b) ≡ bitsFrom (downFrom (spans A) (k + 1)) 0
   shifted b e = ap₂ (λ (x : ℕ) (t : Bool). bitOr (x * 2 ^ 1 % 2 ^ 64) (digit t)) (s .last) (sym e) ∙ shift-in (spans A) k
 
   module _ (e : spans A (k + 1) ≡ true) where
@@ -222,7 +223,7 @@ module _ {A : List ℕ} {k seen word count : ℕ} (s : Scanned A k seen word cou
     }
 
   module _ (e : spans A (k + 1) ≡ false) where
-    moved-out : seen * 2 ^ 1 % 2 ^ 64 ≡ bitsFrom (before (spans A) (k + 1)) 0
+    moved-out : seen * 2 ^ 1 % 2 ^ 64 ≡ bitsFrom (downFrom (spans A) (k + 1)) 0
     unfolding digit
     moved-out = sym (or-zero-r (seen * 2 ^ 1 % 2 ^ 64)) ∙ shifted false e
 

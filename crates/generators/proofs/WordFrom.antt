@@ -11,20 +11,19 @@ use borrow.Author.Tests.{ltb-true, ltb-false, lt-ltb, leb-true, le-leb, eqb-true
 use Rattle.words.specs.Lists.{every}
 use Rattle.words.specs.Sets.{Set, sumOfTwo, ClosedUnderAddition, GapsOf}
 use Rattle.words.specs.Words.{setOf, gaps, genus, wordOf}
-use Rattle.words.specs.Answers.{Answer, refused, given, ask}
+use Rattle.words.specs.Answers.{Answer, refused, given, ask, Accepted}
 use Rattle.words.proofs.Booleans.{not-both, is-false}
-use Rattle.words.proofs.Lists.{every-mem, mem-every, every-false}
+use Rattle.words.proofs.Lists.{every-mem, mem-every, every-false, fronted-front}
 use Rattle.words.proofs.Sets.{same-of-gaps}
 use Rattle.words.proofs.Words.{GapList, word-gaps, word-lt, gaps-of, same-set}
 use Rattle.words.proofs.Closure.{closed-iff}
-use Rattle.words.proofs.Answers.{Accepted}
 use Rattle.generators.specs.Divisors.{gcdOf}
-use Rattle.generators.specs.Sums.{spans, gapsTo, AtMostGaps}
+use Rattle.generators.specs.Sums.{spans, gapsTo, AtMostGaps, Positive, WordOfSums}
 use Rattle.generators.specs.Generators.{minimalGenerators, generatorsOf, filled, fewGaps, wordFromOf}
 use Rattle.generators.proofs.Sums.{sum-zero, spans-iff, spans-closed}
 use Rattle.generators.proofs.Few.{gaps-to-mem, mem-gaps-to, gaps-to-ordered, gap-positive, gap-below-64, gaps-to-le, few-iff}
-use Rattle.generators.proofs.MinimalGenerators.{generator-parts, generator-of, generators-mem, mem-generators, generators-span, generators-gcd, generators-least, generators-given, room}
-use Rattle.generators.proofs.Writing.{written-front}
+use Rattle.generators.proofs.MinimalGenerators.{generators-mem, mem-generators, generators-span, generators-gcd, generators-least, generators-given, room}
+use Rattle.words.proofs.Elements.{generator-parts, generator-of}
 
 -- ---- the word of a set
 
@@ -85,11 +84,7 @@ module _ (v : ℕ) where
   by-word w true true true e = (refl, refl, refl, cc)
 
 module _ (A : List ℕ) where
-  -- all members are positive
-  abbrev pub Positive : Type 0
-  Positive = (a : ℕ) → List·Memᴰ a A → 0 < a
-
-  positive-iff : (every (ltb 0) A ≡ true) ↔ Positive
+  positive-iff : (every (ltb 0) A ≡ true) ↔ Positive A
   positive-iff = (λ e a m. ltb-true 0 a (every-mem (ltb 0) A e m), λ h. mem-every (ltb 0) A (λ a m. lt-ltb 0 a (h a m)))
 
   spans-zero : spans A 0 ≡ true
@@ -125,7 +120,7 @@ module _ (A : List ℕ) where
   )
 
   -- else 8 where the greatest common divisor is not 1
-  pub refused-divisor : (wordFromOf A ≡ refused 8) ↔ (Positive × (gcdOf A ≢ 1))
+  pub refused-divisor : (wordFromOf A ≡ refused 8) ↔ (Positive A × (gcdOf A ≢ 1))
   unfolding wordFromOf
   refused-divisor = (
     λ e. let (p, q) = by-divisor word positives coprime (fewGaps A) e in (positive-iff .0 p, eqb-false (gcdOf A) 1 q),
@@ -133,20 +128,12 @@ module _ (A : List ℕ) where
   )
 
   -- else 9 where the sums leave more than 32 gaps
-  pub refused-gaps : (wordFromOf A ≡ refused 9) ↔ (Positive × (gcdOf A ≡ 1) × ¬ AtMostGaps 32 (spans A))
+  pub refused-gaps : (wordFromOf A ≡ refused 9) ↔ (Positive A × (gcdOf A ≡ 1) × ¬ AtMostGaps 32 (spans A))
   unfolding wordFromOf
   refused-gaps = (
     λ e. let (p, q, r) = by-gaps word positives coprime (fewGaps A) e in (positive-iff .0 p, eqb-true (gcdOf A) 1 q, λ g. not-both (few-gaps-iff .1 g) r),
     λ (h, g, n). rw (positive-iff .1 h, eq-eqb (gcdOf A) 1 g, is-false (fewGaps A) (λ e. n (few-gaps-iff .0 e))),
   )
-
-  -- w is the word of the sums
-  pub record WordOfSums (w : ℕ) : Type 0 where
-    pub positive : Positive
-    pub coprime : gcdOf A ≡ 1
-    pub few : AtMostGaps 32 (spans A)
-    pub fits : w < 2 ^ 64
-    pub same : (x : ℕ) → setOf w x ≡ spans A x
 
   few-word : AtMostGaps 32 (spans A) → (wordOf (gapsTo (spans A) 64) < 2 ^ 64) × ((x : ℕ) → setOf (wordOf (gapsTo (spans A) 64)) x ≡ spans A x)
   few-word few =
@@ -154,7 +141,7 @@ module _ (A : List ℕ) where
       word-of-set (spans A) spans-zero (λ x e. omega (arith, gap-below-64 (spans A) spans-zero (spans-closed A) short x e))
 
   -- else the word whose set is that of the sums
-  pub answered-word : (w : ℕ) → (wordFromOf A ≡ given w) ↔ WordOfSums w
+  pub answered-word : (w : ℕ) → (wordFromOf A ≡ given w) ↔ WordOfSums A w
   unfolding wordFromOf
   answered-word w = (
     λ e.
@@ -174,7 +161,7 @@ module _ (A : List ℕ) where
 pub generators-give-word : (w : ℕ) → w < 2 ^ 64 → Accepted w → wordFromOf (minimalGenerators w) ≡ given w
 unfolding genus
 generators-give-word w fits h =
-    let same : (x : ℕ) → setOf w x ≡ spans (minimalGenerators w) x = λ x. sym (generators-span w fits (h .sums) x) in
+    let same : (x : ℕ) → setOf w x ≡ spans (minimalGenerators w) x = λ x. sym (generators-span w fits (h .closed) x) in
     let g = gaps-of w fits in
     answered-word (minimalGenerators w) w .1 (record {
       positive = λ a m. generator-parts w a (generators-mem w fits m) .0;
@@ -188,7 +175,7 @@ generators-give-word w fits h =
 pub listed-give-word : (w : ℕ) → w < 2 ^ 64 → (lent l : List ℕ) (n : ℕ) → generatorsOf w lent ≡ record { answer = given n; list = l } → wordFromOf (take n l) ≡ given w
 listed-give-word w fits lent l n e =
     let (h, count, list) = generators-given w lent l n e in
-    ap₂ (λ (k : ℕ) (m : List ℕ). wordFromOf (take k m)) count list ∙ ap wordFromOf (written-front (minimalGenerators w) lent)
+    ap₂ (λ (k : ℕ) (m : List ℕ). wordFromOf (take k m)) count list ∙ ap wordFromOf (fronted-front (minimalGenerators w) lent)
     ∙ generators-give-word w fits h
 
 module _ (A : List ℕ) (w : ℕ) (made : wordFromOf A ≡ given w) where
@@ -202,7 +189,7 @@ module _ (A : List ℕ) (w : ℕ) (made : wordFromOf A ≡ given w) where
       let same : spans A ≡ setOf w = sym (fun-ext (sums .same)) in (
         sums .fits,
         record {
-          sums = closed-iff w (sums .fits) .1 (subst ClosedUnderAddition same (spans-closed A));
+          closed = closed-iff w (sums .fits) .1 (subst ClosedUnderAddition same (spans-closed A));
           few = gaps-to-le (setOf w) refl 32 64 (subst (AtMostGaps 32) same (sums .few));
         },
       )

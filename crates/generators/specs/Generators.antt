@@ -1,17 +1,14 @@
 -- The minimal generators of a word, and the word of given generators. Assumes nothing: these are definitions.
-use Prim.Native.Nat.{ℕ, _+_, _%_, _^_, _≤_}
-use mathlib.Core.Path.{_≡_}
-use mathlib.Core.Bool.{Bool, true, _&&_}
-use mathlib.Core.List.{List, _++_}
+use Prim.Native.Nat.{ℕ, _+_}
+use mathlib.Core.Bool.{Bool}
+use mathlib.Core.List.{List}
 use lib.Dec.{eqb, ltb, leb}
-use lib.ListN.{length, drop}
-use Rattle.words.specs.Lists.{run, keep, every}
-use Rattle.words.specs.Sets.{Set}
-use Rattle.words.specs.Words.{genus, conductor, closed, wordOf}
+use lib.ListN.{length}
+use Rattle.words.specs.Lists.{run, keep, every, fronted}
+use Rattle.words.specs.Words.{conductor, wordOf}
 use Rattle.words.specs.Elements.{multiplicity, generator}
 use Rattle.words.specs.Answers.{Answer, refused, given, answered, ask, askWord}
 use Rattle.words.specs.declared.NumberAnswer.{NumberAnswer}
-use Rattle.tables.specs.Seeds.{seedTable}
 use Rattle.generators.specs.Divisors.{gcdOf}
 use Rattle.generators.specs.Sums.{spans, gapsTo}
 
@@ -19,44 +16,29 @@ use Rattle.generators.specs.Sums.{spans, gapsTo}
 unfoldable pub minimalGenerators : ℕ → List ℕ
 minimalGenerators w = keep (generator w) (run 0 (conductor w + multiplicity w))
 
--- a generator below the conductor
-unfoldable pub lowGenerator : ℕ → Set
-lowGenerator w x = ltb x (conductor w) && generator w x
-
 -- ---- the generators of a word
 
--- the list with the numbers of l written in front
-unfoldable pub written : List ℕ → List ℕ → List ℕ
-written l out = l ++ drop (length l) out
-
 -- what a call that writes into a lent list leaves: its answer, and the list afterwards
-pub record Listing : Type 0 where
+pub record ListAnswer : Type 0 where
   pub answer : Answer ℕ
   pub list : List ℕ
 
 -- what `NumberAnswer` and the list afterwards say
-abbrev pub listed : NumberAnswer → List ℕ → Listing
+abbrev pub listed : NumberAnswer → List ℕ → ListAnswer
 listed r l = record { answer = answered r; list = l }
 
 -- refused with the number of the question, with nothing written
-abbrev pub unchanged : List ℕ → ℕ → Listing
+abbrev pub unchanged : List ℕ → ℕ → ListAnswer
 unchanged lent n = record { answer = refused n; list = lent }
 
 -- the number of generators, with all of them written
-abbrev pub filled : ℕ → List ℕ → Listing
-filled w lent = record { answer = given (length (minimalGenerators w)); list = written (minimalGenerators w) lent }
+abbrev pub filled : ℕ → List ℕ → ListAnswer
+filled w lent = record { answer = given (length (minimalGenerators w)); list = fronted (minimalGenerators w) lent }
 
 -- the generators of w into the lent list: questions 1 and 2, then 6, does the list hold all of them
-unfoldable pub generatorsOf : ℕ → List ℕ → Listing
+unfoldable pub generatorsOf : ℕ → List ℕ → ListAnswer
 generatorsOf w lent =
     askWord (unchanged lent) w (ask (leb (length (minimalGenerators w)) (length lent)) (unchanged lent 6) (filled w lent))
-
--- w is accepted, of conductor c, and the first row of its seed table is this number
-pub record Known (w c row : ℕ) : Type 0 where
-  pub few : genus w ≤ 32
-  pub sums : closed w ≡ true
-  pub conductor-is : c ≡ conductor w
-  pub row-is : row ≡ seedTable w % 2 ^ multiplicity w
 
 -- ---- the word of given generators
 

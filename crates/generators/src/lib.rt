@@ -6,12 +6,13 @@ ghost use mathlib.Core.List.{map, _++_};
 ghost use lib.Dec.{leb, ltb, eqb};
 ghost use lib.Bits.{bitAnd};
 ghost use lib.ListN.{length, take};
-ghost use Rattle.words.specs.Lists.{every};
+ghost use Rattle.words.specs.Lists.{every, fronted};
 ghost use Rattle.words.specs.Words.{bit, positions, conductor, wordOf};
 ghost use Rattle.words.specs.Answers.{answered};
 ghost use Rattle.generators.specs.Divisors.{gcd, gcdOf};
-ghost use Rattle.generators.specs.Sums.{spans, gapsTo, memberOf, bitsFrom};
-ghost use Rattle.generators.specs.Generators.{Known, lowGenerator, generatorsOf, listed, wordFromOf, written};
+ghost use Rattle.generators.specs.Sums.{spans, gapsTo};
+ghost use Rattle.generators.specs.BitSets.{memberOf, bitsFrom, ConductorAndRow, lowGenerator};
+ghost use Rattle.generators.specs.Generators.{generatorsOf, listed, wordFromOf};
 use tables::NodeAnswer;
 use words::NumberAnswer;
 use words::Refusal;
@@ -150,7 +151,7 @@ pub fn word_from(list: &[u8]) -> NumberAnswer
 // Writes `first + i` for each standing bit i, in rising order, from the place `start` on. The place after them.
 fn write_bits(bits: u64, first: u64, start: usize, out: &mut [u8]) -> usize
     requires { ⌜ (first ≤ 192) × (start + length (positions bits) ≤ length (now out)) ⌝ }
-    ensures { λ r. ⌜ (r ≡ start + length (positions bits)) × (now (out .exit) ≡ written (take start (now (out .entry)) ++ map (λ i. first + i) (positions bits)) (now (out .entry))) ⌝ }
+    ensures { λ r. ⌜ (r ≡ start + length (positions bits)) × (now (out .exit) ≡ fronted (take start (now (out .entry)) ++ map (λ i. first + i) (positions bits)) (now (out .entry))) ⌝ }
 {
     let mut at = start;
     for i in 0..64u64 {
@@ -178,7 +179,7 @@ fn low_generators(word: u64, c: u64) -> u64
 }
 
 // How many bits stand.
-fn standing(bits: u64) -> usize
+fn standing_bits(bits: u64) -> usize
     ensures { λ r. ⌜ r ≡ length (positions bits) ⌝ }
 {
     u64::count_ones(bits) as usize
@@ -186,11 +187,11 @@ fn standing(bits: u64) -> usize
 
 // The minimal generators of an accepted word of conductor `c`, the first row of whose seed table is `row`, into the lent list.
 fn generators_of(word: u64, c: u64, row: u64, out: &mut [u8]) -> NumberAnswer
-    requires { ⌜ Known word c row ⌝ }
+    requires { ⌜ ConductorAndRow word c row ⌝ }
     ensures { λ r. ⌜ listed r (now (out .exit)) ≡ generatorsOf word (now (out .entry)) ⌝ }
 {
     let low = low_generators(word, c);
-    let count = standing(low) + standing(row);
+    let count = standing_bits(low) + standing_bits(row);
     if out.len() < count {
         return NumberAnswer::Refused(Refusal::ListTooShort);
     }

@@ -5,7 +5,7 @@ use native.Mathlib.Omega.{arith}
 use borrow.Author.Needs.{needs}
 use borrow.Author.Tests.{ne-eqb}
 use lib.Dec.{eqb}
-use Rattle.generators.specs.Sums.{bitsFrom}
+use Rattle.generators.specs.BitSets.{bitsFrom}
 use Rattle.words.proofs.Bits.{one-shl}
 use Rattle.generators.proofs.BitSets.{bits-from-none, bits-from-one}
 use Rattle.generators.proofs.bit_from.Statement.{statement}

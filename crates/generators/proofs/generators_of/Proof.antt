@@ -9,15 +9,16 @@ use borrow.Author.Needs.{needs}
 use Rattle.words.specs.Words.{positions}
 use Rattle.words.specs.Answers.{given}
 use Rattle.words.proofs.StandingBits.{positions-le}
-use Rattle.generators.specs.Generators.{minimalGenerators, written, Listing}
-use Rattle.generators.proofs.Writing.{written-length, written-twice}
+use Rattle.generators.specs.Generators.{minimalGenerators, ListAnswer}
+use Rattle.words.specs.Lists.{fronted}
+use Rattle.words.proofs.Lists.{fronted-length, fronted-twice}
 use Rattle.generators.proofs.MinimalGenerators.{no-room, room}
-use Rattle.generators.proofs.LowGenerators.{conductor-small, known-accepted, generators-listed, generators-length}
+use Rattle.generators.proofs.LowGenerators.{conductor-small, generators-listed, generators-length}
 use Rattle.generators.proofs.generators_of.Statement.{statement}
 use Rattle.generators.proofs.generators_of.Tie as tie
 
 -- n numbers are given, in the list l
-abbrev giving : ℕ → List ℕ → Listing
+abbrev giving : ℕ → List ℕ → ListAnswer
 giving n l = record { answer = given n; list = l }
 
 -- the room for the first part is known before it is written
@@ -27,24 +28,24 @@ write-bits-requires c κs = search needs
 low-generators-requires : tie.Need-low-generators-requires
 low-generators-requires c κs = let start = c .before in (start .pre .conductor-is, conductor-small (start .fits .word .fits) (start .pre))
 
-standing-requires : tie.Need-standing-requires
-standing-requires c κs = search needs
+standing-bits-requires : tie.Need-standing-bits-requires
+standing-bits-requires c κs = search needs
 
-standing-requires-2 : tie.Need-standing-requires-2
-standing-requires-2 c κs = search needs
+standing-bits-requires-2 : tie.Need-standing-bits-requires-2
+standing-bits-requires-2 c κs = search needs
 
 add-count : tie.Need-add-count
 add-count c =
     let low : ℕ = c .before .before .low-generators .result in
     let row : ℕ = c .before .before .before .before .args .row in
-    omega (arith, c .before .standing .ensures, c .standing2 .ensures, positions-le low, positions-le row)
+    omega (arith, c .before .standing-bits .ensures, c .standing-bits2 .ensures, positions-le low, positions-le row)
 
 returns : tie.Need-returns
 returns c =
     let at-count = c .before in
     let start = at-count .before .before .before .before in
     let many = generators-length (start .fits .word .fits) (start .pre) _ (at-count .before .before .low-generators .ensures) in
-    sym (no-room (start .args .word) (start .args .out .now) (known-accepted (start .fits .word .fits) (start .pre)) (omega (arith, many, c .if1 .taken, at-count .before .standing .ensures, at-count .standing2 .ensures)))
+    sym (no-room (start .args .word) (start .args .out .now) (start .pre .accepted) (omega (arith, many, c .if1 .taken, at-count .before .standing-bits .ensures, at-count .standing-bits2 .ensures)))
 
 write-bits-requires-2 : tie.Need-write-bits-requires-2
 write-bits-requires-2 c κs =
@@ -54,9 +55,9 @@ write-bits-requires-2 c κs =
     let low : ℕ = at-count .before .before .low-generators .result in
     let (place, list) = at-first .write-bits .ensures in
     let fits = at-first .before .before .if1 .left in
-    let first-count = at-count .before .standing .ensures in
-    let second-count = at-count .standing2 .ensures in
-    let sized = ap length list ∙ written-length (map (λ d. 1 + d) (positions low)) (start .args .out .now) (omega (arith, fits, first-count, length-map (positions low) (λ d. 1 + d))) in
+    let first-count = at-count .before .standing-bits .ensures in
+    let second-count = at-count .standing-bits2 .ensures in
+    let sized = ap length list ∙ fronted-length (map (λ d. 1 + d) (positions low)) (start .args .out .now) (omega (arith, fits, first-count, length-map (positions low) (λ d. 1 + d))) in
     (omega (arith, conductor-small (start .fits .word .fits) (start .pre)), omega (arith, place, sized, fits, first-count, second-count))
 
 same-length : tie.Need-same-length
@@ -77,22 +78,22 @@ returns-2 c =
     let (place, list) = at-first .write-bits .ensures in
     let (end, all) = at-second .write-bits2 .ensures in
     let enough : length (minimalGenerators w) ≤ length out =
-    omega (arith, many, at-first .before .before .if1 .left, at-count .before .standing .ensures, at-count .standing2 .ensures) in
+    omega (arith, many, at-first .before .before .if1 .left, at-count .before .standing-bits .ensures, at-count .standing-bits2 .ensures) in
     let l : List ℕ = map (λ d. 1 + d) (positions low) in
     let k : List ℕ = map (λ d. start .args .c + d) (positions row) in
     ap₂ giving
     (end ∙ ap (λ (n : ℕ). n + length (positions row)) (place ∙ zero-add (length (positions low))) ∙ sym many)
-    (all ∙ written-twice l out k _ _ (place ∙ zero-add (length (positions low)) ∙ sym (length-map (positions low) (λ d. 1 + d))) list
-    ∙ ap (λ (g : List ℕ). written g out) (sym (generators-listed (start .fits .word .fits) (start .pre) low found)))
-    ∙ sym (room w out (known-accepted (start .fits .word .fits) (start .pre)) enough)
+    (all ∙ fronted-twice l out k _ _ (place ∙ zero-add (length (positions low)) ∙ sym (length-map (positions low) (λ d. 1 + d))) list
+    ∙ ap (λ (g : List ℕ). fronted g out) (sym (generators-listed (start .fits .word .fits) (start .pre) low found)))
+    ∙ sym (room w out (start .pre .accepted) enough)
 
 pub generators-of-spec : {M : Type 1} → statement M
 generators-of-spec =
     tie.close
     (tie.spec
     low-generators-requires
-    standing-requires
-    standing-requires-2
+    standing-bits-requires
+    standing-bits-requires-2
     add-count
     returns
     write-bits-requires

@@ -10,14 +10,14 @@ use borrow.Author.Tests.{eq-eqb, ne-eqb}
 use Rattle.words.specs.Words.{bit}
 use Rattle.words.proofs.Bits.{bit-test, one-shl}
 use Rattle.words.proofs.Elements.{conductor-pos}
-use Rattle.generators.specs.Sums.{bitsFrom}
+use Rattle.generators.specs.BitSets.{bitsFrom}
 use Rattle.generators.proofs.BitSets.{bits-from-bit}
-use Rattle.generators.proofs.LowGenerators.{below, below-bits, sumTo, sums-none, sums-more, sums-same, low-bits-found}
+use Rattle.generators.proofs.LowGenerators.{belowConductor, below-bits, sumTo, sums-none, sums-more, sums-same, low-bits-found}
 use Rattle.generators.proofs.low_generators.Statement.{statement}
 use Rattle.generators.proofs.low_generators.Tie as tie
 
 abbrev Inv-loop : tie.InvT-loop
-Inv-loop word c elements sums₀ k₀ sums k = (k ≤ 63) × (elements ≡ bitsFrom (below word) 1) × (sums ≡ bitsFrom (sumTo (below word) k) 1)
+Inv-loop word c elements sums₀ k₀ sums k = (k ≤ 63) × (elements ≡ bitsFrom (belowConductor word) 1) × (sums ≡ bitsFrom (sumTo (belowConductor word) k) 1)
 
 abbrev μ-loop : tie.MeasureT-loop
 μ-loop word c elements sums₀ k₀ sums k = 63 - k
@@ -34,7 +34,7 @@ sub-elements-2 c = omega (arith, one-shl (c .args .c - 1) (omega arith), pow-pos
 loop-holds : tie.Need-loop-holds Inv-loop μ-loop
 loop-holds c =
     let w : ℕ = c .args .word in
-    (omega arith, ap (λ (n : ℕ). bitAnd (2 ^ 64 - 1 - w) (1 * 2 ^ (n - 1) % 2 ^ 64 - 1)) (c .pre .0) ∙ below-bits w (c .fits .word .fits) (omega arith), sums-none (below w))
+    (omega arith, ap (λ (n : ℕ). bitAnd (2 ^ 64 - 1 - w) (1 * 2 ^ (n - 1) % 2 ^ 64 - 1)) (c .pre .0) ∙ below-bits w (c .fits .word .fits) (omega arith), sums-none (belowConductor w))
 
 shr-if1 : tie.Need-shr-if1 Inv-loop μ-loop
 shr-if1 c = omega arith
@@ -57,12 +57,12 @@ loop-again c =
     let loop = c .before .before .loop in
     let k : ℕ = loop .k in
     let (range, elements, sums) = loop .inv in
-    let tested = bit-test _ k ∙ ap (λ (n : ℕ). bit n k) elements ∙ bits-from-bit (below w) 1 k (omega arith) ∙ ap (below w) (add-comm 1 k) in (
+    let tested = bit-test _ k ∙ ap (λ (n : ℕ). bit n k) elements ∙ bits-from-bit (belowConductor w) 1 k (omega arith) ∙ ap (belowConductor w) (add-comm 1 k) in (
       omega arith,
       elements,
       ⊎-elim
-          (λ t. t .1 ∙ ap₂ (λ (s e : ℕ). bitOr s (e * 2 ^ (k + 1) % 2 ^ 64)) sums elements ∙ sums-more (below w) k (sym tested ∙ eq-eqb _ 1 (t .0 .taken)))
-          (λ t. t .1 ∙ sums ∙ sums-same (below w) k (sym tested ∙ ne-eqb _ 1 (t .0 .left)))
+          (λ t. t .1 ∙ ap₂ (λ (s e : ℕ). bitOr s (e * 2 ^ (k + 1) % 2 ^ 64)) sums elements ∙ sums-more (belowConductor w) k (sym tested ∙ eq-eqb _ 1 (t .0 .taken)))
+          (λ t. t .1 ∙ sums ∙ sums-same (belowConductor w) k (sym tested ∙ ne-eqb _ 1 (t .0 .left)))
           (c .if1 .came),
     )
 
@@ -72,7 +72,7 @@ returns c =
     let w : ℕ = at-loop .before .args .word in
     let (range, elements, sums) = at-loop .loop .inv in
     let all : at-loop .loop .k ≡ 63 = omega arith in
-    ap₂ (λ (e s : ℕ). bitAnd e (2 ^ 64 - 1 - s)) elements (sums ∙ ap (λ (k : ℕ). bitsFrom (sumTo (below w) k) 1) all) ∙ low-bits-found w
+    ap₂ (λ (e s : ℕ). bitAnd e (2 ^ 64 - 1 - s)) elements (sums ∙ ap (λ (k : ℕ). bitsFrom (sumTo (belowConductor w) k) 1) all) ∙ low-bits-found w
 
 pub low-generators-spec : {M : Type 1} → statement M
 low-generators-spec =

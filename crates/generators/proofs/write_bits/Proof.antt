@@ -8,13 +8,13 @@ use borrow.Author.Tests.{eq-eqb, ne-eqb}
 use Rattle.words.proofs.Bits.{bit-test}
 use lib.ListN.{length, take}
 use Rattle.words.specs.Words.{positions}
-use Rattle.generators.specs.Generators.{written}
-use Rattle.generators.proofs.Writing.{standingBefore, Written, start-writing, place-left, write-next, write-none}
+use Rattle.words.specs.Lists.{fronted}
+use Rattle.generators.proofs.Writing.{standingBefore, BitsWritten, start-writing, place-left, write-next, write-none}
 use Rattle.generators.proofs.write_bits.Statement.{statement}
 use Rattle.generators.proofs.write_bits.Tie as tie
 
 abbrev Inv-loop : tie.InvT-loop
-Inv-loop bits first start out₀ at₀ i₀ out at i = Written bits first start out₀ out at i
+Inv-loop bits first start out₀ at₀ i₀ out at i = BitsWritten bits first start out₀ out at i
 
 abbrev μ-loop : tie.MeasureT-loop
 μ-loop bits first start out₀ at₀ i₀ out at i = 64 - i
@@ -53,9 +53,9 @@ loop-again c =
     let loop = c .before .before .loop in
     let stands = bit-test (start .args .bits) (loop .i) in
     ⊎-elim
-    (λ t. subst₂ (λ (o : List ℕ) (a : ℕ). Written (start .args .bits) (start .args .first) (start .args .start) (start .args .out .now) o a (loop .i + 1)) (sym (t .1)) (sym (t .2))
+    (λ t. subst₂ (λ (o : List ℕ) (a : ℕ). BitsWritten (start .args .bits) (start .args .first) (start .args .start) (start .args .out .now) o a (loop .i + 1)) (sym (t .1)) (sym (t .2))
     (write-next (loop .inv) (omega arith) (start .pre .1) (sym stands ∙ eq-eqb _ 1 (t .0 .taken))))
-    (λ t. subst₂ (λ (o : List ℕ) (a : ℕ). Written (start .args .bits) (start .args .first) (start .args .start) (start .args .out .now) o a (loop .i + 1)) (sym (t .1)) (sym (t .2))
+    (λ t. subst₂ (λ (o : List ℕ) (a : ℕ). BitsWritten (start .args .bits) (start .args .first) (start .args .start) (start .args .out .now) o a (loop .i + 1)) (sym (t .1)) (sym (t .2))
     (write-none (loop .inv) (omega arith) (sym stands ∙ ne-eqb _ 1 (t .0 .left))))
     (c .if1 .came)
 
@@ -69,7 +69,7 @@ returns c =
     let inv = c .before .loop .inv in
     let all : c .before .loop .i ≡ 64 = omega (arith, inv .range) in (
       inv .place ∙ ap (λ (i : ℕ). start .args .start + length (standingBefore (start .args .bits) i)) all,
-      inv .list ∙ ap (λ (i : ℕ). written (take (start .args .start) (start .args .out .now) ++ map (λ d. start .args .first + d) (standingBefore (start .args .bits) i)) (start .args .out .now)) all,
+      inv .list ∙ ap (λ (i : ℕ). fronted (take (start .args .start) (start .args .out .now) ++ map (λ d. start .args .first + d) (standingBefore (start .args .bits) i)) (start .args .out .now)) all,
     )
 
 pub write-bits-spec : {M : Type 1} → statement M
