@@ -80,11 +80,11 @@ module _ (n : ℕ) (fits : n < 2 ^ 64) where
   pub decimal-digits : every isDigit (decimal n) ≡ true
   unfolding every isDigit
   decimal-digits =
-      by-decimal (λ n l. every isDigit l ≡ true) (λ n h. rw (digit n h))
-      (λ n l h e. every-append isDigit l (byteOf (n % 10) ∷ []) ∙ rw (e, digit (n % 10) (omega arith)))
+      by-decimal (λ n l. every isDigit l ≡ true) (λ n h. rw (digit-byte n h))
+      (λ n l h e. every-append isDigit l (byteOf (n % 10) ∷ []) ∙ rw (e, digit-byte (n % 10) (omega arith)))
     where
-      digit : (d : ℕ) → d < 10 → isDigit (byteOf d) ≡ true
-      digit d h = rw (le-leb 48 (byteOf d) (omega arith), le-leb (byteOf d) 57 (omega arith))
+      digit-byte : (d : ℕ) → d < 10 → isDigit (byteOf d) ≡ true
+      digit-byte d h = rw (le-leb 48 (byteOf d) (omega arith), le-leb (byteOf d) 57 (omega arith))
 
   -- there is one, and the first is 0 only where the number is 0
   pub decimal-first : (0 < length (decimal n)) × (getD (decimal n) 0 0 ≡ 48 → n ≡ 0)

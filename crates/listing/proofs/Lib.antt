@@ -4,4 +4,5 @@ pub mod Lines
 pub mod Requests
 pub mod Pages
 pub mod Listings
+pub mod Program
 pub mod Cases

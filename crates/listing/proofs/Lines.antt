@@ -6,7 +6,7 @@ use mathlib.Core.List.{List, [], _∷_, _++_, List·Memᴰ}
 use native.Mathlib.Omega.{arith}
 use lib.Dec.{leb}
 use lib.ListN.{length, length-append}
-use Rattle.words.specs.Lists.{joined}
+use Rattle.words.specs.Lists.{joined, fronted}
 use Rattle.words.specs.Words.{conductor}
 use Rattle.words.specs.Elements.{multiplicity}
 use Rattle.words.specs.GenusList.{genusList}
@@ -20,7 +20,7 @@ use Rattle.words.proofs.Operations.{conductor-le, multiplicity-le}
 use Rattle.words.proofs.Tree.{genus-count-fits}
 use Rattle.listing.specs.Decimal.{decimal}
 use Rattle.listing.specs.Text.{blank, lineFeed, field, header, headerOf, lineOf, refusalLine}
-use Rattle.listing.specs.Writing.{fronted, refusalLineOf}
+use Rattle.listing.specs.Writing.{refusalLineOf}
 use Rattle.listing.proofs.Decimal.{length-decimal}
 
 -- a field has one byte more than digits

@@ -7,18 +7,17 @@ use mathlib.Core.Bool.{Bool, true, false}
 use mathlib.Core.List.{List, [], _∷_, _++_, map, append-nil, append-assoc, List·Memᴰ, List·Memᴰ·head, List·Memᴰ·tail, Memᴰ·append-left, Memᴰ·append-right}
 use native.Mathlib.Omega.{arith}
 use lib.ListN.{length, take, drop, length-append, length-take, length-drop, take-append-drop}
-use lib.Seq.{take-append-seam, drop-append-seam}
 use borrow.Author.Tests.{le-leb}
 use Rattle.words.specs.Lists.{joined}
 use Rattle.words.specs.GenusList.{genusList}
 use Rattle.words.proofs.Booleans.{not-both}
-use Rattle.words.proofs.Lists.{cons-nil, end-drop, joined-append}
+use Rattle.words.proofs.Lists.{cons-nil, end-drop, joined-append, fronted-length, fronted-front, fronted-rest}
 use Rattle.words.proofs.GenusList.{genus-list-mem}
 use Rattle.walk.specs.Walks.{none, standing}
 use Rattle.walk.proofs.Walks.{none-iff, rest-standing, standing-in-order}
 use Rattle.listing.specs.declared.Listing.{Listing}
 use Rattle.listing.specs.Text.{headerOf, lineOf, listingOf}
-use Rattle.listing.specs.Pages.{freshListingOf, headingOf, textLeft, Turn, linesWithin, written, pageOf, PageCall, pages, reportedBytes, wrote, AfterPage, Listings}
+use Rattle.listing.specs.Pages.{freshListingOf, headingOf, textLeft, Turn, linesWithin, pageWritten, pageOf, PageCall, pages, reportedBytes, wroteBytes, AfterPage, Listings}
 use Rattle.listing.proofs.Lines.{line-some, lines-le}
 use Rattle.listing.proofs.Pages.{page-written, lines-some, page-fits, text-turns}
 
@@ -42,7 +41,7 @@ module _ (g : ℕ) (small : g ≤ 32) where
   record Stands (calls : List PageCall) (headed : Bool) (r : List ℕ) : Type 0 where
     passed : List ℕ
     split : passed ++ r ≡ genusList g
-    text : joined wrote calls ++ (headingOf headed g ++ joined lineOf r) ≡ listingOf g
+    text : joined wroteBytes calls ++ (headingOf headed g ++ joined lineOf r) ≡ listingOf g
     fewer : length r ≤ length (genusList g) - length calls
 
   -- one more page
@@ -57,34 +56,34 @@ module _ (g : ℕ) (small : g ≤ 32) where
     left = joined lineOf (drop n r)
 
     abbrev c : PageCall
-    c = record { lent = lent; turn = written (stood headed r) r lent }
+    c = record { lent = lent; turn = pageWritten (stood headed r) r lent }
 
-    page-stood : pageOf (stood headed r) lent ≡ written (stood headed r) r lent
+    page-stood : pageOf (stood headed r) lent ≡ pageWritten (stood headed r) r lent
     unfolding standing
     page-stood =
         page-written (stood headed r) lent small (standing-in-order g (h .passed) small r (h .split)) room
-        ∙ ap (λ (t : List ℕ). written (stood headed r) t lent) (rest-standing g (h .passed) r (h .split))
+        ∙ ap (λ (t : List ℕ). pageWritten (stood headed r) t lent) (rest-standing g (h .passed) r (h .split))
 
-    wrote-text : wrote c ≡ text
-    unfolding wrote reportedBytes standing
-    wrote-text = take-append-seam text (drop (length text) lent)
+    wrote-text : wroteBytes c ≡ text
+    unfolding wroteBytes reportedBytes standing
+    wrote-text = fronted-front text lent
 
-    so-far : joined wrote (calls ++ c ∷ []) ≡ joined wrote calls ++ text
+    so-far : joined wroteBytes (calls ++ c ∷ []) ≡ joined wroteBytes calls ++ text
     unfolding joined
-    so-far = joined-append wrote calls (c ∷ []) ∙ ap (λ (t : List ℕ). joined wrote calls ++ t) (append-nil (wrote c) ∙ wrote-text)
+    so-far = joined-append wroteBytes calls (c ∷ []) ∙ ap (λ (t : List ℕ). joined wroteBytes calls ++ t) (append-nil (wroteBytes c) ∙ wrote-text)
 
-    turns : joined wrote (calls ++ c ∷ []) ++ left ≡ listingOf g
+    turns : joined wroteBytes (calls ++ c ∷ []) ++ left ≡ listingOf g
     turns =
-        ap (λ (t : List ℕ). t ++ left) so-far ∙ append-assoc (joined wrote calls) text left
-        ∙ ap (λ (t : List ℕ). joined wrote calls ++ t) (text-turns (headingOf headed g) r n) ∙ h .text
+        ap (λ (t : List ℕ). t ++ left) so-far ∙ append-assoc (joined wroteBytes calls) text left
+        ∙ ap (λ (t : List ℕ). joined wroteBytes calls ++ t) (text-turns (headingOf headed g) r n) ∙ h .text
 
     fewer : length (drop n r) ≤ length (genusList g) - length (calls ++ c ∷ [])
     fewer = omega (arith, length-drop n r, h .fewer, length-append calls (c ∷ []), lines-some headed (length lent) room)
 
-    finished : (none (drop n r) ≡ true) ↔ (joined wrote (calls ++ c ∷ []) ≡ listingOf g)
+    finished : (none (drop n r) ≡ true) ↔ (joined wroteBytes (calls ++ c ∷ []) ≡ listingOf g)
     finished = (
-      λ e. sym (append-nil _) ∙ ap (λ (t : List ℕ). joined wrote (calls ++ c ∷ []) ++ t) (sym (lines-none (drop n r) e)) ∙ turns,
-      λ e. none-lines (drop n r) (omega (arith, length-append (joined wrote (calls ++ c ∷ [])) left, ap length turns, ap length e)),
+      λ e. sym (append-nil _) ∙ ap (λ (t : List ℕ). joined wroteBytes (calls ++ c ∷ []) ++ t) (sym (lines-none (drop n r) e)) ∙ turns,
+      λ e. none-lines (drop n r) (omega (arith, length-append (joined wroteBytes (calls ++ c ∷ [])) left, ap length turns, ap length e)),
     )
 
     listed : (w : ℕ) → List·Memᴰ w (take n r) → w < 2 ^ 64
@@ -111,8 +110,8 @@ module _ (g : ℕ) (small : g ≤ 32) where
       beginning = turns;
       finished = finished;
       enough = λ e. none-iff (drop n r) .1 (omega (arith, fewer));
-      untouched = drop-append-seam text (drop (length text) lent);
-      same-length = omega (arith, length-append text (drop (length text) lent), length-drop (length text) lent, fits);
+      untouched = fronted-rest text lent;
+      same-length = fronted-length text lent fits;
     }
 
     turned-first : (lents : List (List ℕ)) {calls′ : List PageCall} → pages (stood headed r) (lent ∷ lents) ≡ calls′

@@ -8,7 +8,7 @@ use lib.Dec.{leb}
 use lib.ListN.{length, take, drop, length-append, length-drop, take-append-drop}
 use lib.Seq.{take-at, length-take-le}
 use borrow.Author.Tests.{le-leb, lt-leb, leb-true}
-use Rattle.words.specs.Lists.{joined}
+use Rattle.words.specs.Lists.{joined, fronted}
 use Rattle.words.specs.GenusList.{genusList}
 use Rattle.words.specs.Answers.{Answer, refused, given, ask}
 use Rattle.words.proofs.Booleans.{not-both, by-value}
@@ -22,25 +22,24 @@ use Rattle.walk.proofs.Walks.{rest-end, rest-standing, batch-moves, count-all}
 use Rattle.listing.specs.declared.Listing.{Listing}
 use Rattle.listing.specs.declared.Page.{Page}
 use Rattle.listing.specs.declared.PageAnswer.the-variants as P
-use Rattle.listing.specs.Writing.{fronted}
 use Rattle.listing.specs.Text.{header, headerOf, lineOf}
-use Rattle.listing.specs.Pages.{freshListingOf, headingOf, Turn, turned, unturned, linesWithin, written, pageOf}
+use Rattle.listing.specs.Pages.{freshListingOf, headingOf, Turn, turned, unturned, linesWithin, pageWritten, pageOf}
 use Rattle.listing.proofs.Lines.{header-of-le}
 
 -- ---- by what the fresh walk answers
 
-pub fresh-refused : (g n : ℕ) → freshOf g ≡ refused n → freshListingOf g ≡ refused n
+pub fresh-listing-refused : (g n : ℕ) → freshOf g ≡ refused n → freshListingOf g ≡ refused n
 unfolding freshOf freshListingOf
-fresh-refused g n e = by-question (leb g 32) e
+fresh-listing-refused g n e = by-question (leb g 32) e
   where
     by-question : (p : Bool) → ask p (refused 3) (given (standing g (genusList g))) ≡ refused n
         → ask {A = Answer Listing} p (refused 3) (given record { headed = false; walk = standing g (genusList g) }) ≡ refused n
     by-question true e = absurd (let z : _≡_ {A = ℕ} 0 1 = cc in omega arith)
     by-question false e = let same : 3 ≡ n = cc in ap refused same
 
-pub fresh-given : (g : ℕ) (w : Walk) → freshOf g ≡ given w → freshListingOf g ≡ given record { headed = false; walk = w }
+pub fresh-listing-given : (g : ℕ) (w : Walk) → freshOf g ≡ given w → freshListingOf g ≡ given record { headed = false; walk = w }
 unfolding freshOf freshListingOf
-fresh-given g w e = by-question (leb g 32) e
+fresh-listing-given g w e = by-question (leb g 32) e
   where
     by-question : (p : Bool) → ask p (refused 3) (given (standing g (genusList g))) ≡ given w
         → ask {A = Answer Listing} p (refused 3) (given record { headed = false; walk = standing g (genusList g) }) ≡ given record { headed = false; walk = w }
@@ -60,7 +59,7 @@ module _ (l : Listing) (words lent : List ℕ) where
 
       by-questions : (p q : Bool)
           → ask p (unmoved 3 (l .walk) words) (ask q (unmoved 4 (l .walk) words) (moved (l .walk .genus) (rest (l .walk)) words)) .answer ≡ refused n
-          → ask p (unturned 3 l lent) (ask q (unturned 4 l lent) (ask (leb 64 (length lent)) (unturned 6 l lent) (written l (rest (l .walk)) lent))) ≡ unturned n l lent
+          → ask p (unturned 3 l lent) (ask q (unturned 4 l lent) (ask (leb 64 (length lent)) (unturned 6 l lent) (pageWritten l (rest (l .walk)) lent))) ≡ unturned n l lent
       by-questions false q e = unturned-as 3 e
       by-questions true false e = unturned-as 4 e
       by-questions true true e = absurd (let z : _≡_ {A = ℕ} 0 1 = cc in omega arith)
@@ -84,19 +83,19 @@ module _ (l : Listing) (lent : List ℕ) (small : l .walk .genus ≤ 32) (order 
   page-short h = rw (le-leb (l .walk .genus) 32 small, order, lt-leb 64 (length lent) h)
 
   -- and in one with 64 the page is written
-  pub page-written : 64 ≤ length lent → pageOf l lent ≡ written l (rest (l .walk)) lent
+  pub page-written : 64 ≤ length lent → pageOf l lent ≡ pageWritten l (rest (l .walk)) lent
   unfolding pageOf
   page-written h = rw (le-leb (l .walk .genus) 32 small, order, le-leb 64 (length lent) h)
 
 -- where a page is given, it is written
-pub page-given : (l : Listing) (lent : List ℕ) (p : Page) → pageOf l lent .answer ≡ given p → pageOf l lent ≡ written l (rest (l .walk)) lent
+pub page-given : (l : Listing) (lent : List ℕ) (p : Page) → pageOf l lent .answer ≡ given p → pageOf l lent ≡ pageWritten l (rest (l .walk)) lent
 unfolding pageOf
 page-given l lent p e = by-questions (leb (l .walk .genus) 32) (inOrder (l .walk)) (leb 64 (length lent)) e
   where
     made : Bool → Bool → Bool → Turn
-    made a b c = ask a (unturned 3 l lent) (ask b (unturned 4 l lent) (ask c (unturned 6 l lent) (written l (rest (l .walk)) lent)))
+    made a b c = ask a (unturned 3 l lent) (ask b (unturned 4 l lent) (ask c (unturned 6 l lent) (pageWritten l (rest (l .walk)) lent)))
 
-    by-questions : (a b c : Bool) → made a b c .answer ≡ given p → made a b c ≡ written l (rest (l .walk)) lent
+    by-questions : (a b c : Bool) → made a b c .answer ≡ given p → made a b c ≡ pageWritten l (rest (l .walk)) lent
     by-questions true true true e = refl
     by-questions true true false e = absurd (let z : _≡_ {A = ℕ} 0 1 = cc in omega arith)
     by-questions true false c e = absurd (let z : _≡_ {A = ℕ} 0 1 = cc in omega arith)
@@ -225,7 +224,7 @@ module _ (l : Listing) (lent : List ℕ) (p : Page) {t : Turn} (e : t ≡ pageOf
   abbrev text : List ℕ
   text = headingOf (l .headed) (l .walk .genus) ++ joined lineOf (take n R)
 
-  ends : t ≡ written l R lent
+  ends : t ≡ pageWritten l R lent
   ends = e ∙ page-given l lent p (ap (λ (u : Turn). u .answer) (sym e) ∙ g)
 
   tells : p ≡ record { bytes = length text; finished = none (drop n R) }
@@ -233,6 +232,7 @@ module _ (l : Listing) (lent : List ℕ) (p : Page) {t : Turn} (e : t ≡ pageOf
 
   -- in a list that keeps its length, it has its places
   pub page-bytes : length (t .list) ≡ length lent → p .bytes ≤ length lent
+  unfolding fronted
   page-bytes kept =
       omega (
         arith,

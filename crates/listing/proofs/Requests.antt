@@ -1,15 +1,15 @@
 -- What an input asks for, by its length: two digits and a line feed, one digit, which is as two, the first of which is 0, or other
--- inputs, which are refused. Assumes nothing.
+-- inputs, which are refused; so four bytes are enough to read. Assumes nothing.
 use Prim.Native.Nat.{ℕ, _+_, _-_, _*_, _≤_}
-use mathlib.Core.Path.{_≡_, refl, _∙_, ap, ap₂}
+use mathlib.Core.Path.{_≡_, refl, sym, _∙_, ap, ap₂}
 use mathlib.Core.Bool.{Bool, true, _&&_, and-true, and-eq-true-iff}
 use mathlib.Core.List.{List, [], _∷_}
 use native.Mathlib.Omega.{arith}
 use native.Mathlib.Decide.{decLt}
 use lib.Dec.{leb, eqb}
-use lib.ListN.{length, getD}
+use lib.ListN.{length, getD, take}
 use borrow.Author.Tests.{leb-true, eq-eqb}
-use lib.Seq.{length-take-le}
+use lib.Seq.{length-take-le, take-all}
 use Rattle.words.specs.Lists.{every, lastOr}
 use Rattle.words.proofs.Booleans.{is-false}
 use Rattle.words.specs.Answers.{Answer, refused, given, ask}
@@ -22,20 +22,20 @@ unfolding isDigit
 digit-range b e = let (low, high) = and-eq-true-iff (leb 48 b) (leb b 57) .0 e in (leb-true 48 b low, leb-true b 57 high)
 
 module _ (a b e : ℕ) where
-  abbrev genus : ℕ
-  genus = (a - 48) * 10 + (b - 48)
+  abbrev requested : ℕ
+  requested = (a - 48) * 10 + (b - 48)
 
-  abbrev asked : Answer ℕ
-  asked = ask (leb genus 32) (refused 3) (given genus)
+  abbrev genusAnswer : Answer ℕ
+  genusAnswer = ask (leb requested 32) (refused 3) (given requested)
 
-  pub request-two : requestOf (a ∷ b ∷ e ∷ []) ≡ ask (isDigit a && isDigit b && eqb e 10) (refused 10) asked
+  pub request-two : requestOf (a ∷ b ∷ e ∷ []) ≡ ask (isDigit a && isDigit b && eqb e 10) (refused 10) genusAnswer
   unfolding requestOf wellFormed every lastOr valueAfter
   request-two =
-      let same : value (a ∷ b ∷ []) ≡ genus = omega arith in
+      let same : value (a ∷ b ∷ []) ≡ requested = omega arith in
       ap₂ (λ (t : Bool) (g : ℕ). ask (isDigit a && t && eqb e 10) (refused 10) (ask (leb g 32) (refused 3) (given g))) (and-true (isDigit b)) same
 
   -- both digits and the line feed stand there
-  pub request-two-asked : isDigit a ≡ true → isDigit b ≡ true → e ≡ 10 → requestOf (a ∷ b ∷ e ∷ []) ≡ asked
+  pub request-two-asked : isDigit a ≡ true → isDigit b ≡ true → e ≡ 10 → requestOf (a ∷ b ∷ e ∷ []) ≡ genusAnswer
   request-two-asked p q r = request-two ∙ rw (p, q, eq-eqb e 10 r)
 
 -- 03 is 3
@@ -57,6 +57,16 @@ request-none l two three =
   where
     by-cases : (n : ℕ) → 2 ≤ n → n ≤ 3 → (n ≡ 2 → ⊥) → (n ≡ 3 → ⊥) → ⊥
     by-cases n low high two three = elim (decLt 2 n) [ yes h ↦ three (omega arith) | no h ↦ two (omega arith) ]
+
+-- four bytes are enough to read: they ask for what the whole input asks for
+pub request-of-four : (input : List ℕ) → requestOf (take 4 input) ≡ requestOf input
+request-of-four input =
+    elim (decLt (length input) 4) [
+      | yes h ↦ ap requestOf (take-all 4 input (omega arith))
+      | no h ↦
+          let many : length (take 4 input) ≡ 4 = length-take-le 4 input (omega arith) in
+          request-none (take 4 input) (λ e. omega arith) (λ e. omega arith) ∙ sym (request-none input (λ e. omega arith) (λ e. omega arith))
+    ]
 
 -- a list of two bytes, and one of three
 pub two-of : (l : List ℕ) → length l ≡ 2 → getD l 0 0 ∷ getD l 1 0 ∷ [] ≡ l

@@ -6,7 +6,8 @@ use native.Mathlib.Omega.{arith}
 use lib.ListN.{length, drop, set, length-append}
 use lib.Seq.{sets, sets-eq, length-sets}
 use Rattle.words.proofs.Lists.{sets-append}
-use Rattle.listing.specs.Writing.{Puts, fronted}
+use Rattle.listing.specs.Writing.{Puts}
+use Rattle.words.specs.Lists.{fronted}
 
 -- nothing is written
 pub puts-nothing : (l : List ℕ) (at : ℕ) → at ≤ length l → Puts l at [] l at
@@ -34,6 +35,7 @@ puts-on {l} {m} {n} {s} {t} {at} {next} {end} p q = record {
 
 -- from the start on, the text stands at the front, and the places after it are untouched
 pub puts-front : {l m s : List ℕ} {end : ℕ} → Puts l 0 s m end → (end ≡ length s) × (m ≡ fronted s l)
+unfolding fronted
 puts-front {l} {m} {s} {end} p =
     let zero : 0 + length s ≡ length s = omega arith in
     (p .next ∙ zero, p .list ∙ sets-eq s l 0 (p .within) ∙ ap (λ (i : ℕ). s ++ drop i l) zero)

@@ -3,3 +3,4 @@ pub mod Text
 pub mod Request
 pub mod Writing
 pub mod Pages
+pub mod Program

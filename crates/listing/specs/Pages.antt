@@ -7,12 +7,11 @@ use mathlib.Core.Bool.{Bool, true, false, cond}
 use mathlib.Core.List.{List, [], _∷_, _++_, map, List·Memᴰ}
 use lib.Dec.{leb}
 use lib.ListN.{length, take, drop}
-use Rattle.words.specs.Lists.{joined}
+use Rattle.words.specs.Lists.{joined, fronted}
 use Rattle.words.specs.GenusList.{genusList}
 use Rattle.words.specs.Answers.{Answer, refused, given, numberOf, ask}
 use Rattle.walk.specs.Walks.{none, rest, standing, inOrder}
 use Rattle.listing.specs.Text.{headerOf, lineOf, listingOf}
-use Rattle.listing.specs.Writing.{fronted}
 use Rattle.listing.specs.declared.Listing.{Listing}
 use Rattle.listing.specs.declared.ListingAnswer.{ListingAnswer}
 use Rattle.listing.specs.declared.ListingAnswer.the-variants as L
@@ -25,9 +24,9 @@ abbrev pub opened : ListingAnswer → Answer Listing
 opened (L.Refused r) = refused (numberOf r)
 opened (L.Given l) = given l
 
-abbrev pub told : PageAnswer → Answer Page
-told (P.Refused r) = refused (numberOf r)
-told (P.Given p) = given p
+abbrev pub pageAnswered : PageAnswer → Answer Page
+pageAnswered (P.Refused r) = refused (numberOf r)
+pageAnswered (P.Given p) = given p
 
 -- ---- a listing under way
 
@@ -53,7 +52,7 @@ pub record Turn : Type 0 where
 
 -- the ending of a page that returned r and left this listing and this list
 abbrev pub turned : PageAnswer → Listing → List ℕ → Turn
-turned r l list = record { answer = told r; listing = l; list = list }
+turned r l list = record { answer = pageAnswered r; listing = l; list = list }
 
 -- refused: the listing and the list are as they were
 abbrev pub unturned : ℕ → Listing → List ℕ → Turn
@@ -64,8 +63,8 @@ unfoldable pub linesWithin : Bool → ℕ → ℕ
 linesWithin headed places = min 4096 ((places - cond headed 0 36) / 27)
 
 -- of r, the words whose lines are still to write, the lines that fit, behind the header unless it was written
-abbrev pub written : Listing → List ℕ → List ℕ → Turn
-written l r lent =
+abbrev pub pageWritten : Listing → List ℕ → List ℕ → Turn
+pageWritten l r lent =
     let g : ℕ = l .walk .genus in
     let n : ℕ = min (linesWithin (l .headed) (length lent)) (length r) in
     let text : List ℕ = headingOf (l .headed) g ++ joined lineOf (take n r) in
@@ -80,7 +79,7 @@ unfoldable pub pageOf : Listing → List ℕ → Turn
 pageOf l lent =
     ask (leb (l .walk .genus) 32) (unturned 3 l lent)
     (ask (inOrder (l .walk)) (unturned 4 l lent)
-    (ask (leb 64 (length lent)) (unturned 6 l lent) (written l (rest (l .walk)) lent)))
+    (ask (leb 64 (length lent)) (unturned 6 l lent) (pageWritten l (rest (l .walk)) lent)))
 
 -- ---- a row of pages
 
@@ -103,8 +102,8 @@ reportedBytes (refused n) = 0
 reportedBytes (given p) = p .bytes
 
 -- the bytes that a page wrote: those at the front of its lent list when it ends, as many as it reports
-unfoldable pub wrote : PageCall → List ℕ
-wrote c = take (reportedBytes (c .turn .answer)) (c .turn .list)
+unfoldable pub wroteBytes : PageCall → List ℕ
+wroteBytes c = take (reportedBytes (c .turn .answer)) (c .turn .list)
 
 -- what holds after the page c, which came after the pages `before`, of a listing of genus g
 pub record AfterPage (g : ℕ) (before : List PageCall) (c : PageCall) : Type 0 where
@@ -113,9 +112,9 @@ pub record AfterPage (g : ℕ) (before : List PageCall) (c : PageCall) : Type 0 
   pub answered : c .turn .answer ≡ given page
   -- the bytes written so far, joined in call order, are a beginning of the listing
   pub left : List ℕ
-  pub beginning : joined wrote (before ++ c ∷ []) ++ left ≡ listingOf g
+  pub beginning : joined wroteBytes (before ++ c ∷ []) ++ left ≡ listingOf g
   -- it says finished exactly where they are the whole of it
-  pub finished : (page .finished ≡ true) ↔ (joined wrote (before ++ c ∷ []) ≡ listingOf g)
+  pub finished : (page .finished ≡ true) ↔ (joined wroteBytes (before ++ c ∷ []) ≡ listingOf g)
   -- which is so after as many pages as there are semigroups of the genus
   pub enough : length (genusList g) ≤ length (before ++ c ∷ []) → page .finished ≡ true
   -- and it leaves the rest of its list untouched

@@ -1,10 +1,11 @@
 -- Text written into a lent list of bytes. Assumes nothing: these are definitions.
 use Prim.Native.Nat.{ℕ, _+_, _≤_}
 use mathlib.Core.Path.{_≡_}
-use mathlib.Core.List.{List, _++_}
+use mathlib.Core.List.{List}
 use lib.Dec.{leb}
-use lib.ListN.{length, drop}
+use lib.ListN.{length}
 use lib.Seq.{sets}
+use Rattle.words.specs.Lists.{fronted}
 use Rattle.words.specs.Answers.{Answer, refused, given, ask}
 use Rattle.listing.specs.Text.{refusalLine}
 
@@ -13,10 +14,6 @@ pub record Puts (before : List ℕ) (at : ℕ) (text after : List ℕ) (end : �
   pub list : after ≡ sets before at text
   pub next : end ≡ at + length text
   pub within : at + length text ≤ length before
-
--- the lent list with a text at its front: places after it are untouched
-abbrev pub fronted : List ℕ → List ℕ → List ℕ
-fronted text lent = text ++ drop (length text) lent
 
 -- the line of a refusal with the number n in a list that has 11 places: its length, and the list afterwards; else question 6
 unfoldable pub refusalLineOf : ℕ → List ℕ → Answer ℕ × List ℕ

@@ -5,7 +5,7 @@ use lib.ListN.{length}
 use lib.Seq.{length-take-le}
 use borrow.Author.Needs.{needs}
 use Rattle.walk.specs.Walks.{rest}
-use Rattle.listing.specs.Pages.{told}
+use Rattle.listing.specs.Pages.{pageAnswered}
 use Rattle.listing.proofs.Pages.{page-bytes, page-falls}
 use Rattle.list.proofs.write_pages.Statement.{statement}
 use Rattle.list.proofs.write_pages.Tie as tie
@@ -40,7 +40,7 @@ enum-known-answer c = search needs
 array-share-prefix-out : tie.Need-array-share-prefix-out Inv-loop μ-loop
 array-share-prefix-out c =
     let page = c .before .before .before .before .next-page in
-    let within = page-bytes _ _ _ (page .ensures) (ap told (c .before .answer .given .1)) (page .kept .1 .0) in
+    let within = page-bytes _ _ _ (page .ensures) (ap pageAnswered (c .before .answer .given .1)) (page .kept .1 .0) in
     omega (arith, page .kept .1 .0)
 
 slice-aggregate-write-all : tie.Need-slice-aggregate-write-all Inv-loop μ-loop
@@ -57,7 +57,7 @@ returns-3 c = search needs
 
 loop-less : tie.Need-loop-less Inv-loop μ-loop
 loop-less c =
-    page-falls _ _ _ (c .before .before .before .before .before .before .before .before .before .next-page .ensures) (ap told (c .before .before .before .before .before .before .answer .given .1)) (omega (arith, c .before .before .before .before .before .before .before .before .before .before .before .loop .inv)) (c .before .if2 .left)
+    page-falls _ _ _ (c .before .before .before .before .before .before .before .before .before .next-page .ensures) (ap pageAnswered (c .before .before .before .before .before .before .answer .given .1)) (omega (arith, c .before .before .before .before .before .before .before .before .before .before .before .loop .inv)) (c .before .if2 .left)
 
 loop-again : tie.Need-loop-again Inv-loop μ-loop
 loop-again c = search needs
