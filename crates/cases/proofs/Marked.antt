@@ -1,56 +1,71 @@
 -- The cases that document 01 marks to be proved, together as one table against the definitions, in its order. Assumes nothing.
-use Prim.Native.Nat.{ℕ}
-use mathlib.Core.Path.{_≡_, ap}
+use Prim.Native.Nat.{ℕ, _≤_}
+use mathlib.Core.Path.{_≡_, _∙_, ap}
 use mathlib.Core.Bool.{true, false}
 use mathlib.Core.List.{List, [], _∷_, map}
 use native.Mathlib.Omega.{arith}
-use lib.ListN.{getD}
+use lib.ListN.{length, getD, drop}
+use Rattle.words.specs.Lists.{fronted}
 use Rattle.words.specs.GenusList.{genusList}
 use Rattle.words.specs.Answers.{Answer, refused, given, lookOf}
 use Rattle.words.specs.declared.Report.{Report}
+use Rattle.words.proofs.Answers.{look-given}
 use Rattle.words.proofs.Cases.{known-looks, known-list}
 use Rattle.tables.specs.Answers.{tableOf, childOf}
 use Rattle.tables.proofs.Cases.{known-tables, known-children, no-child-at-32}
-use Rattle.walk.specs.Walks.{standing}
+use Rattle.walk.specs.declared.Walk.{Walk}
+use Rattle.walk.specs.Walks.{freshOf}
 use Rattle.walk.specs.Demand3.{atlas, batches}
-use Rattle.walk.proofs.Cases.{seen, genus-four}
-use Rattle.generators.specs.Generators.{minimalGenerators, wordFromOf}
+use Rattle.walk.proofs.Cases.{answerAndList, genus-four}
+use Rattle.generators.specs.Generators.{minimalGenerators, generatorsOf, wordFromOf}
+use Rattle.generators.proofs.MinimalGenerators.{room as generators-room}
 use Rattle.generators.proofs.Cases.{known-generators, known-words}
 use Rattle.elementary.specs.Answers.{elementaryOf}
 use Rattle.elementary.proofs.Cases.{known-counts}
 
 -- what a look tells of a word of genus g, multiplicity m and conductor c
-abbrev told : ℕ → ℕ → ℕ → Answer Report
-told g m c = given record { genus = g; multiplicity = m; conductor = c }
+abbrev lookGiven : ℕ → ℕ → ℕ → Answer Report
+lookGiven g m c = given record { genus = g; multiplicity = m; conductor = c }
 
 pub record Marked : Type 0 where
-  pub word-0 : (lookOf 0 ≡ told 0 1 1) × (tableOf 0 ≡ given 1)
-  pub word-1 : (lookOf 1 ≡ told 1 2 2) × (tableOf 1 ≡ given 3)
-  pub word-5 : (lookOf 5 ≡ told 2 2 4) × (tableOf 5 ≡ given 14)
-  pub word-111 : (lookOf 111 ≡ told 6 5 8) × (tableOf 111 ≡ given 251)
-  pub word-91 : (lookOf 91 ≡ told 5 3 8) × (tableOf 91 ≡ given 237) × (minimalGenerators 91 ≡ 3 ∷ 8 ∷ 10 ∷ [])
+  pub word-0 : (lookOf 0 ≡ lookGiven 0 1 1) × (tableOf 0 ≡ given 1)
+  pub word-1 : (lookOf 1 ≡ lookGiven 1 2 2) × (tableOf 1 ≡ given 3)
+  pub word-5 : (lookOf 5 ≡ lookGiven 2 2 4) × (tableOf 5 ≡ given 14)
+  pub word-111 : (lookOf 111 ≡ lookGiven 6 5 8) × (tableOf 111 ≡ given 251)
+  pub word-91 : (lookOf 91 ≡ lookGiven 5 3 8) × (tableOf 91 ≡ given 237)
+  -- in any list that holds them
+  pub generators-of-91 : (lent : List ℕ) → 3 ≤ length lent → generatorsOf 91 lent ≡ record { answer = given 3; list = 3 ∷ 8 ∷ 10 ∷ drop 3 lent }
   pub word-13 : lookOf 13 ≡ refused 2
   pub children-of-1 : (childOf 1 2 ≡ given 3) × (childOf 1 3 ≡ given 5) × (childOf 1 4 ≡ refused 5)
   pub genus-4 : genusList 4 ≡ 15 ∷ 23 ∷ 39 ∷ 71 ∷ 27 ∷ 75 ∷ 85 ∷ []
-  -- whatever the lent lists held
-  pub genus-4-by-3-0-5 : (a b c d e f g h : ℕ)
-      → map seen (batches atlas (standing 4 (genusList 4)) ((a ∷ b ∷ c ∷ []) ∷ [] ∷ (d ∷ e ∷ f ∷ g ∷ h ∷ []) ∷ []))
+  -- from the fresh call, whatever the lent lists held: their places after the words are untouched
+  pub genus-4-by-3-0-5 : (w : Walk) → freshOf 4 ≡ given w → (a b c d e f g h : ℕ)
+      → map answerAndList (batches atlas w ((a ∷ b ∷ c ∷ []) ∷ [] ∷ (d ∷ e ∷ f ∷ g ∷ h ∷ []) ∷ []))
       ≡ (given record { count = 3; finished = false }, 15 ∷ 23 ∷ 39 ∷ []) ∷ (given record { count = 0; finished = false }, [])
-      ∷ (given record { count = 4; finished = true }, 71 ∷ 27 ∷ 75 ∷ 85 ∷ []) ∷ []
+      ∷ (given record { count = 4; finished = true }, 71 ∷ 27 ∷ 75 ∷ 85 ∷ h ∷ []) ∷ []
   pub generators-2-65 : (wordFromOf (2 ∷ 65 ∷ []) ≡ given 6148914691236517205) × ((e : ℕ) → childOf 6148914691236517205 e ≡ refused 3)
   pub generators-2-67 : wordFromOf (2 ∷ 67 ∷ []) ≡ refused 9
   pub generators-4-6 : wordFromOf (4 ∷ 6 ∷ []) ≡ refused 8
-  pub gaps-1-to-32 : lookOf 4294967295 ≡ told 32 33 33
+  pub gaps-1-to-32 : lookOf 4294967295 ≡ lookGiven 32 33 33
   pub gaps-1-to-33 : lookOf 8589934591 ≡ refused 1
   pub elementary-5 : (elementaryOf 7 5 ≡ given 3) × (elementaryOf 10 5 ≡ given 0)
 
 -- one of the looks, and one of the tables, that `words` and `tables` compute
 look : (i : ℕ) → getD (map lookOf (0 ∷ 1 ∷ 5 ∷ 111 ∷ 91 ∷ 13 ∷ 4294967295 ∷ 8589934591 ∷ [])) i (refused 0)
-    ≡ getD (told 0 1 1 ∷ told 1 2 2 ∷ told 2 2 4 ∷ told 6 5 8 ∷ told 5 3 8 ∷ refused 2 ∷ told 32 33 33 ∷ refused 1 ∷ []) i (refused 0)
+    ≡ getD (lookGiven 0 1 1 ∷ lookGiven 1 2 2 ∷ lookGiven 2 2 4 ∷ lookGiven 6 5 8 ∷ lookGiven 5 3 8 ∷ refused 2 ∷ lookGiven 32 33 33 ∷ refused 1 ∷ []) i (refused 0)
 look i = ap (λ (l : List (Answer Report)). getD l i (refused 0)) known-looks
 
 number : {k l : List (Answer ℕ)} (i : ℕ) → k ≡ l → getD k i (refused 0) ≡ getD l i (refused 0)
 number i e = ap (λ (l : List (Answer ℕ)). getD l i (refused 0)) e
+
+-- the word 91 is accepted, and its generators are 3, 8 and 10
+generators-of-91 : (lent : List ℕ) → 3 ≤ length lent → generatorsOf 91 lent ≡ record { answer = given 3; list = 3 ∷ 8 ∷ 10 ∷ drop 3 lent }
+unfolding fronted
+generators-of-91 lent room =
+    let three : minimalGenerators 91 ≡ 3 ∷ 8 ∷ 10 ∷ [] = ap (λ (l : List (List ℕ)). getD l 1 []) known-generators in
+    let accepted = look-given 91 _ (look 4) .0 in
+    generators-room 91 lent accepted (omega (arith, ap length three))
+    ∙ ap (λ (l : List ℕ). record { answer = given (length l); list = fronted l lent }) three
 
 pub marked : Marked
 marked = record {
@@ -58,7 +73,8 @@ marked = record {
   word-1 = (look 1, number 1 known-tables);
   word-5 = (look 2, number 2 known-tables);
   word-111 = (look 3, number 3 known-tables);
-  word-91 = (look 4, number 4 known-tables, ap (λ (l : List (List ℕ)). getD l 1 []) known-generators);
+  word-91 = (look 4, number 4 known-tables);
+  generators-of-91 = generators-of-91;
   word-13 = look 5;
   children-of-1 = (number 0 (known-children .1), number 1 (known-children .1), number 2 (known-children .1));
   genus-4 = known-list 4 (omega arith);

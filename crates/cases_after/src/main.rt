@@ -1,0 +1,138 @@
+// Runs further cases of the papers on what comes after the walk: generators both ways, elementary counts and the requests of the listing
+// program. What it prints is held to the stored file, which was computed apart from the plain definitions.
+use libc::STDOUT_FILENO;
+use words::NumberAnswer;
+use words::Refusal;
+
+fn text(bytes: &[u8]) {
+    io::write_all(STDOUT_FILENO, bytes);
+}
+
+// A blank and a number.
+fn field(n: u64) {
+    text(b" ");
+    io::print_decimal(STDOUT_FILENO, n);
+}
+
+// A blank and a number for each byte.
+fn bytes(list: &[u8]) {
+    for i in 0..list.len() {
+        field(wide(list[i]));
+    }
+}
+
+fn wide(x: u8) -> u64 {
+    x as u64
+}
+
+fn refusal(r: Refusal) {
+    text(b" refused");
+    field(r.number());
+}
+
+// A colon and a number, or the number of a refusal, at the end of a line.
+fn answer(a: NumberAnswer) {
+    text(b":");
+    match a {
+        NumberAnswer::Refused(r) => refusal(r),
+        NumberAnswer::Given(n) => field(n),
+    }
+    text(b"\n");
+}
+
+fn show_generators(word: u64) {
+    text(b"generators of");
+    field(word);
+    let mut list = [0u8; 33];
+    let a = generators::generators(word, &mut list);
+    if let NumberAnswer::Given(n) = a {
+        if n <= 33 {
+            text(b" are");
+            bytes(&list[..n as usize]);
+        }
+    }
+    answer(a);
+}
+
+fn show_word_from(list: &[u8]) {
+    text(b"word from");
+    bytes(list);
+    answer(generators::word_from(list));
+}
+
+fn show_elementary(frobenius: u64, genus: u64) {
+    text(b"elementary");
+    field(frobenius);
+    field(genus);
+    answer(elementary::elementary(frobenius, genus));
+}
+
+fn show_request(input: &[u8]) {
+    text(b"request");
+    bytes(input);
+    answer(listing::request(input));
+}
+
+fn generators_out() {
+    show_generators(0);
+    show_generators(111);
+    show_generators(427392895);
+    show_generators(4294967295);
+    show_generators(6148914691236517205);
+    show_generators(13);
+}
+
+fn words_back() {
+    show_word_from(&[5, 8, 9, 11, 12]);
+    show_word_from(&[3, 8, 10]);
+    show_word_from(&[10, 3, 8, 3, 10, 16]);
+    show_word_from(&[1]);
+    show_word_from(&[255, 1]);
+    show_word_from(&[6, 10, 15]);
+}
+
+fn refused_generators() {
+    show_word_from(&[2, 65]);
+    show_word_from(&[2, 67]);
+    show_word_from(&[4, 6]);
+    show_word_from(&[0, 1]);
+    show_word_from(&[0]);
+}
+
+fn elementary_counts() {
+    show_elementary(7, 5);
+    show_elementary(10, 5);
+    show_elementary(63, 32);
+    show_elementary(48, 32);
+    show_elementary(0, 0);
+    show_elementary(18446744073709551615, 32);
+    show_elementary(7, 33);
+}
+
+fn requests() {
+    show_request(b"3\n");
+    show_request(b"03\n");
+    show_request(b"32\n");
+    show_request(b"33\n");
+    show_request(b"00\n");
+}
+
+fn malformed_requests() {
+    show_request(b"3");
+    show_request(b"\n");
+    show_request(b"003\n");
+    show_request(b"3\n\n");
+    show_request(b"3 \n");
+    show_request(b"-1\n");
+    show_request(b"a\n");
+    show_request(b"3\r\n");
+}
+
+fn main() {
+    generators_out();
+    words_back();
+    refused_generators();
+    elementary_counts();
+    requests();
+    malformed_requests();
+}
