@@ -83,7 +83,11 @@ atlas_moved atlas_batch(atlas_walk walk, uint64_t *out, size_t length);
 /* The number of semigroups of a genus whose smallest gaps are exactly the word's; of word 0, the number of all. Refusals 1, 2, 3. */
 atlas_number atlas_count(uint64_t word, uint64_t genus);
 
-/* Writes the minimal generators of a word to the front of `out`, in rising order, and gives their number (at most 33). Refusals 1, 2, 6. */
+/* The minimal generators of an accepted word are at most as many as its multiplicity, which is at most 33: a list of so many places always
+   holds them. */
+#define ATLAS_MOST_GENERATORS 33
+
+/* Writes the minimal generators of a word to the front of `out`, in rising order, and gives their number. Refusals 1, 2, 6. */
 atlas_number atlas_generators(uint64_t word, uint8_t *out, size_t length);
 
 /* The word of all sums of the given generators; repeats and any order are allowed. Refusals 7, 8, 9. */

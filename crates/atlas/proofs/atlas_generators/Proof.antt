@@ -1,6 +1,6 @@
 -- `atlas::atlas_generators` meets its contract: what the call gives and leaves in the list, as a struct and the list. Assumes nothing.
 use mathlib.Core.Path.{ap, _∙_}
-use Rattle.generators.specs.Generators.{Listing}
+use Rattle.generators.specs.Generators.{ListAnswer}
 use Rattle.atlas.specs.Interface.{numberIn}
 use borrow.Author.Needs.{needs}
 use Rattle.atlas.proofs.atlas_generators.Statement.{statement}
@@ -18,7 +18,7 @@ same-length c = search needs
 returns : tie.Need-returns
 returns c =
     let made = c .before .before .before .generators .ensures in
-    (c .number-of .ensures ∙ ap (λ (l : Listing). numberIn (l .answer)) made, ap (λ (l : Listing). l .list) made)
+    (c .number-of .ensures ∙ ap (λ (l : ListAnswer). numberIn (l .answer)) made, ap (λ (l : ListAnswer). l .list) made)
 
 pub atlas-generators-spec : {M : Type 1} → statement M
 atlas-generators-spec =

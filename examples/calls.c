@@ -1,0 +1,125 @@
+/* Calls every call of atlas.h, with arguments that are answered and arguments that are refused, and checks the answers, the walk and the
+   lent lists afterwards.  Usage: calls */
+#include <inttypes.h>
+#include <stdio.h>
+#include <string.h>
+#include "atlas.h"
+
+static unsigned checks, failures;
+
+/* Counts a check, and tells where one fails. */
+static void check(bool holds, const char *what, int line) {
+  checks++;
+  if (!holds) {
+    failures++;
+    fprintf(stderr, "calls.c:%d: %s\n", line, what);
+  }
+}
+#define CHECK(fact) check((fact), #fact, __LINE__)
+
+static bool number_is(atlas_number a, uint64_t refused, uint64_t value) { return a.refused == refused && a.value == value; }
+
+static bool report_is(atlas_report r, uint64_t refused, uint64_t genus, uint64_t multiplicity, uint64_t conductor) {
+  return r.refused == refused && r.genus == genus && r.multiplicity == multiplicity && r.conductor == conductor;
+}
+
+static bool walk_is(atlas_walk w, uint64_t genus, uint64_t word, bool finished) {
+  return w.genus == genus && w.word == word && w.finished == finished;
+}
+
+/* The gaps 1 to 33; the gaps 1, 3 and 4, which leave out 2 + 2; the word of genus 32 with the generators 2 and 65. */
+static const uint64_t too_many = 8589934591, not_closed = 13, of_genus_32 = 6148914691236517205;
+
+static void words(void) {
+  CHECK(report_is(atlas_look(0), 0, 0, 1, 1));
+  CHECK(report_is(atlas_look(91), 0, 5, 3, 8));
+  CHECK(report_is(atlas_look(too_many), 1, 0, 0, 0));
+  CHECK(report_is(atlas_look(not_closed), 2, 0, 0, 0));
+}
+
+static void tables(void) {
+  CHECK(number_is(atlas_seed_table(111), 0, 251));
+  CHECK(number_is(atlas_seed_table(too_many), 1, 0));
+  CHECK(number_is(atlas_seed_table(not_closed), 2, 0));
+  CHECK(number_is(atlas_child(1, 3), 0, 5));
+  CHECK(number_is(atlas_child(too_many, 40), 1, 0));
+  CHECK(number_is(atlas_child(not_closed, 5), 2, 0));
+  CHECK(number_is(atlas_child(of_genus_32, 65), 3, 0));
+  CHECK(number_is(atlas_child(1, 4), 5, 0));
+  CHECK(number_is(atlas_child(1, UINT64_MAX), 5, 0));
+}
+
+static void beginnings(void) {
+  atlas_begun begun = atlas_fresh(4);
+  CHECK(begun.refused == 0 && walk_is(begun.walk, 4, 15, false));
+  begun = atlas_fresh(33);
+  CHECK(begun.refused == 3 && walk_is(begun.walk, 0, 0, false));
+  begun = atlas_start(71);
+  CHECK(begun.refused == 0 && walk_is(begun.walk, 4, 71, false));
+  begun = atlas_start(too_many);
+  CHECK(begun.refused == 1 && walk_is(begun.walk, 0, 0, false));
+  begun = atlas_start(not_closed);
+  CHECK(begun.refused == 2 && walk_is(begun.walk, 0, 0, false));
+}
+
+/* Genus 4 by lists of 3, 0 and 5, and refused batches, which leave the walk and the list as they were. */
+static void batches(void) {
+  uint64_t out[5] = {0, 0, 0, 7, 7};
+  atlas_moved moved = atlas_batch(atlas_fresh(4).walk, out, 3);
+  CHECK(moved.refused == 0 && moved.count == 3 && !moved.finished && walk_is(moved.walk, 4, 71, false));
+  CHECK(memcmp(out, (uint64_t[]){15, 23, 39, 7, 7}, sizeof out) == 0);
+  moved = atlas_batch(moved.walk, out, 0);
+  CHECK(moved.refused == 0 && moved.count == 0 && !moved.finished && walk_is(moved.walk, 4, 71, false));
+  moved = atlas_batch(moved.walk, out, 5);
+  CHECK(moved.refused == 0 && moved.count == 4 && moved.finished && walk_is(moved.walk, 4, 0, true));
+  CHECK(memcmp(out, (uint64_t[]){71, 27, 75, 85, 7}, sizeof out) == 0);
+  moved = atlas_batch(moved.walk, out, 5);
+  CHECK(moved.refused == 0 && moved.count == 0 && moved.finished && walk_is(moved.walk, 4, 0, true));
+  moved = atlas_batch((atlas_walk){.genus = 33, .word = 15}, out, 5);
+  CHECK(moved.refused == 3 && moved.count == 0 && !moved.finished && walk_is(moved.walk, 33, 15, false));
+  moved = atlas_batch((atlas_walk){.genus = 5, .word = 15}, out, 5);
+  CHECK(moved.refused == 4 && moved.count == 0 && !moved.finished && walk_is(moved.walk, 5, 15, false));
+  CHECK(memcmp(out, (uint64_t[]){71, 27, 75, 85, 7}, sizeof out) == 0);
+}
+
+static void counts(void) {
+  CHECK(number_is(atlas_count(0, 32), 0, 15195070));
+  CHECK(number_is(atlas_count(91, 5), 0, 1));
+  CHECK(number_is(atlas_count(91, 4), 0, 0));
+  CHECK(number_is(atlas_count(too_many, 33), 1, 0));
+  CHECK(number_is(atlas_count(not_closed, 33), 2, 0));
+  CHECK(number_is(atlas_count(0, 33), 3, 0));
+  CHECK(number_is(atlas_elementary(7, 5), 0, 3));
+  CHECK(number_is(atlas_elementary(10, 5), 0, 0));
+  CHECK(number_is(atlas_elementary(7, 33), 3, 0));
+}
+
+static void generators(void) {
+  uint8_t out[5] = {9, 9, 9, 9, 9};
+  CHECK(number_is(atlas_generators(too_many, out, 5), 1, 0));
+  CHECK(number_is(atlas_generators(not_closed, out, 5), 2, 0));
+  CHECK(number_is(atlas_generators(91, out, 2), 6, 0));
+  CHECK(memcmp(out, (uint8_t[]){9, 9, 9, 9, 9}, sizeof out) == 0);
+  CHECK(number_is(atlas_generators(91, out, 5), 0, 3));
+  CHECK(memcmp(out, (uint8_t[]){3, 8, 10, 9, 9}, sizeof out) == 0);
+  uint8_t all[ATLAS_MOST_GENERATORS];
+  CHECK(number_is(atlas_generators(4294967295, all, sizeof all), 0, 33));
+  CHECK(number_is(atlas_word_from(out, 3), 0, 91));
+  CHECK(number_is(atlas_word_from((uint8_t[]){10, 3, 8, 3}, 4), 0, 91));
+  CHECK(number_is(atlas_word_from((uint8_t[]){2, 65}, 2), 0, of_genus_32));
+  CHECK(number_is(atlas_word_from((uint8_t[]){3, 0}, 2), 7, 0));
+  CHECK(number_is(atlas_word_from((uint8_t[]){4, 6}, 2), 8, 0));
+  CHECK(number_is(atlas_word_from(out, 0), 8, 0));
+  CHECK(number_is(atlas_word_from((uint8_t[]){2, 67}, 2), 9, 0));
+}
+
+int main(void) {
+  words();
+  tables();
+  beginnings();
+  batches();
+  counts();
+  generators();
+  printf("calls: %u checks, %u failed\n", checks, failures);
+  return failures != 0;
+}
