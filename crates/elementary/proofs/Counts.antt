@@ -8,7 +8,6 @@ use native.Mathlib.Nat.{ℕ-set}
 use lib.Dec.{leb, ltb}
 use lib.ListN.{length, length-map}
 use borrow.Author.Tests.{leb-true, le-leb, ltb-true, lt-ltb}
-use Rattle.words.specs.Lists.{keep}
 use Rattle.words.specs.Sets.{Set}
 use Rattle.words.specs.Words.{gaps, genus, wordOf}
 use Rattle.words.specs.GenusList.{genusList, Before, Earlier}

@@ -15,7 +15,8 @@ use lib.Seq.{take-suc}
 use borrow.Author.Tests.{ltb-true, ltb-false, lt-ltb, le-ltb, eqb-true, eq-eqb, not-true, not-false}
 use Rattle.words.specs.Lists.{run, keep, every}
 use Rattle.words.specs.Sets.{Set}
-use Rattle.words.specs.Words.{bit, positions}
+use Rattle.words.specs.Words.{bit}
+use Rattle.words.specs.Positions.{positions}
 use Rattle.words.proofs.Booleans.{not-both, is-false, by-value, true-together}
 use Rattle.words.proofs.Lists.{run-mem, mem-run, keep-mem, mem-keep, ordered-run, ordered-keep, ordered-map, ordered-unique, every-mem, every-false, some-more, length-run, getD-map-run}
 use Rattle.words.proofs.Bits.{bit-and, bit-or, bit-not, bit-zero, bit-pow, bit-mod, bit-shl, bit-shl-low, bits-decide, bit-ofBits, ofBits-lt}

@@ -11,7 +11,8 @@ use lib.ListN.{length, length-append, length-map}
 use borrow.Author.Tests.{ltb-true, lt-ltb, not-true, not-false}
 use Rattle.words.specs.Lists.{run, keep, every}
 use Rattle.words.specs.Sets.{Set, sumOfTwo}
-use Rattle.words.specs.Words.{positions, setOf, conductor}
+use Rattle.words.specs.Words.{setOf, conductor}
+use Rattle.words.specs.Positions.{positions}
 use Rattle.words.specs.Elements.{generator}
 use Rattle.words.specs.Answers.{given}
 use Rattle.words.proofs.Booleans.{not-both, is-false, by-value, true-together}

@@ -7,7 +7,8 @@ use native.Mathlib.Omega.{arith}
 use native.Mathlib.Nat.{add-zero, zero-add}
 use lib.ListN.{length, take, set, length-append, length-take, length-set, length-map}
 use Rattle.words.specs.Lists.{run, keep, fronted}
-use Rattle.words.specs.Words.{bit, positions}
+use Rattle.words.specs.Words.{bit}
+use Rattle.words.specs.Positions.{positions}
 use Rattle.words.proofs.Lists.{keep-more-in, keep-more-out, fronted-set, fronted-self}
 use Rattle.words.proofs.Counting.{length-kept, count-lt}
 

@@ -19,8 +19,7 @@ use Rattle.words.proofs.Lists.{length-joined-le}
 use Rattle.words.proofs.Operations.{conductor-le, multiplicity-le}
 use Rattle.words.proofs.Tree.{genus-count-fits}
 use Rattle.listing.specs.Decimal.{decimal}
-use Rattle.listing.specs.Text.{blank, lineFeed, field, header, headerOf, lineOf, refusalLine}
-use Rattle.listing.specs.Writing.{refusalLineOf}
+use Rattle.listing.specs.Text.{blank, lineFeed, field, header, headerOf, lineOf, refusalLine, refusalLineOf}
 use Rattle.listing.proofs.Decimal.{length-decimal}
 
 -- a field has one byte more than digits

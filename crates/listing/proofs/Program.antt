@@ -15,9 +15,8 @@ use Rattle.words.proofs.First.{genus-list-first}
 use Rattle.listing.specs.declared.Listing.{Listing}
 use Rattle.listing.specs.declared.Page.{Page}
 use Rattle.listing.specs.Decimal.{value}
-use Rattle.listing.specs.Text.{listingOf, refusalLine}
+use Rattle.listing.specs.Text.{listingOf, refusalLine, refusalLineOf}
 use Rattle.listing.specs.Request.{allButLast, wellFormed, requestOf, answerText, textOf}
-use Rattle.listing.specs.Writing.{refusalLineOf}
 use Rattle.listing.specs.Pages.{PageCall, pages, wroteBytes, Listed}
 use Rattle.listing.specs.Program.{RefusalText, PagesText, ProgramTexts}
 use Rattle.listing.proofs.Lines.{refusal-line-le}

@@ -9,9 +9,8 @@ use lib.ListN.{length}
 use Rattle.words.specs.Lists.{joined, fronted}
 use Rattle.words.specs.GenusList.{genusList}
 use Rattle.words.specs.Answers.{refused, given}
-use Rattle.listing.specs.Text.{listingOf, refusalLine}
+use Rattle.listing.specs.Text.{listingOf, refusalLine, refusalLineOf}
 use Rattle.listing.specs.Request.{requestOf, textOf}
-use Rattle.listing.specs.Writing.{refusalLineOf}
 use Rattle.listing.specs.Pages.{freshListingOf, PageCall, pages, wroteBytes}
 use Rattle.listing.specs.declared.Listing.{Listing}
 use Rattle.listing.specs.declared.Page.{Page}

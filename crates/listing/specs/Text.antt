@@ -1,11 +1,13 @@
 -- The text of a listing and of a refusal, as bytes. Assumes nothing: these are definitions.
 use Prim.Native.Nat.{ℕ}
 use mathlib.Core.List.{List, [], _∷_, _++_}
+use lib.Dec.{leb}
 use lib.ListN.{length}
-use Rattle.words.specs.Lists.{joined}
+use Rattle.words.specs.Lists.{joined, fronted}
 use Rattle.words.specs.Words.{conductor}
 use Rattle.words.specs.Elements.{multiplicity}
 use Rattle.words.specs.GenusList.{genusList}
+use Rattle.words.specs.Answers.{Answer, refused, given, ask}
 use Rattle.listing.specs.Decimal.{decimal}
 
 -- the bytes between fields and at the end of a line
@@ -48,3 +50,7 @@ listingOf g = headerOf g ++ joined lineOf (genusList g)
 -- the line of a refusal with the number n
 unfoldable pub refusalLine : ℕ → List ℕ
 refusalLine n = refusedWord ++ field n lineFeed
+
+-- the line of a refusal with the number n in a list that has 11 places: its length, and the list afterwards; else question 6
+unfoldable pub refusalLineOf : ℕ → List ℕ → Answer ℕ × List ℕ
+refusalLineOf n lent = ask (leb 11 (length lent)) (refused 6, lent) (given (length (refusalLine n)), fronted (refusalLine n) lent)

@@ -7,7 +7,8 @@ use native.Mathlib.Omega.{arith}
 use native.Mathlib.Nat.{le-dest, mod-lt}
 use native.Mathlib.Decide.{decLt}
 use lib.Pow.{pow-pos}
-use Rattle.words.specs.Words.{bit, positions, conductor, genus, closed}
+use Rattle.words.specs.Words.{bit, conductor, genus, closed}
+use Rattle.words.specs.Positions.{positions}
 use Rattle.words.specs.Elements.{multiplicity, generator, rightGenerators}
 use Rattle.words.proofs.Booleans.{is-false}
 use Rattle.words.proofs.Lists.{ordered-map, ordered-unique}

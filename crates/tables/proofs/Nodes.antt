@@ -17,7 +17,8 @@ use lib.Count.{trailingZeros}
 use borrow.Author.Tests.{eq-eqb, ne-eqb, lt-ltb, le-ltb, leb-true, le-leb, not-true}
 use Rattle.words.specs.Lists.{run, keep, keepIf, every, joined, lastOr}
 use Rattle.words.specs.Sets.{sumOfTwo}
-use Rattle.words.specs.Words.{bit, digit, positions, setOf, gaps, genus, largestGap, conductor, closed, childWord, ofBits}
+use Rattle.words.specs.Words.{bit, digit, setOf, gaps, genus, largestGap, conductor, closed, childWord, ofBits}
+use Rattle.words.specs.Positions.{positions}
 use Rattle.words.specs.Elements.{elementsBelow, elementAt, rightGenerators}
 use Rattle.words.proofs.Booleans.{not-both, by-value}
 use Rattle.words.proofs.Lists.{nothing, keep-mem, mem-keep, keep-in, keep-append, ordered-keep, first-least}

@@ -9,7 +9,8 @@ use lib.ListN.{length}
 use lib.Pow.{pow-mono}
 use borrow.Author.Tests.{eq-eqb}
 use Rattle.words.specs.Lists.{joined, sumOver, onFrom}
-use Rattle.words.specs.Words.{positions, gaps, genus, conductor, childWord, above}
+use Rattle.words.specs.Words.{gaps, genus, conductor, childWord}
+use Rattle.words.specs.Positions.{positions, above}
 use Rattle.words.specs.Elements.{rightGenerators}
 use Rattle.words.specs.GenusList.{descendantCount}
 use Rattle.words.proofs.Lists.{joined-mem, joined-map, length-joined, sum-of-powers, on-from-joined}

@@ -6,7 +6,8 @@ use mathlib.Core.List.{_++_, map, List·Memᴰ}
 use native.Mathlib.Omega.{arith}
 use native.Mathlib.Numerals.{add-one}
 use Rattle.words.specs.Lists.{onFrom}
-use Rattle.words.specs.Words.{positions, conductor, childWord, above}
+use Rattle.words.specs.Words.{conductor, childWord}
+use Rattle.words.specs.Positions.{positions, above}
 use Rattle.words.specs.Elements.{rightGenerators}
 use Rattle.words.proofs.Elements.{multiplicity-le-conductor, generator-offset, right-generators-mem}
 use Rattle.words.specs.Tree.{leaves}

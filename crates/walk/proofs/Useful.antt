@@ -15,7 +15,7 @@ use Rattle.words.proofs.Closure.{closed-iff}
 use Rattle.words.proofs.Answers.{look-given, accepted-iff}
 use Rattle.words.proofs.Cases.{known-list}
 use Rattle.walk.specs.declared.Walk.{Walk}
-use Rattle.words.specs.Answers.{Answer, refused, given, reportOf, lookOf}
+use Rattle.words.specs.Answers.{Answer, given, reportOf, lookOf}
 use Rattle.words.specs.declared.Report.{Report}
 use Rattle.walk.specs.declared.Written.{Written}
 use Rattle.walk.specs.Demand3.{Atlas, atlas, Call, call, batches, wrote, lengths, N, AfterCall, Demand3}

@@ -3,7 +3,8 @@ use Prim.Native.Nat.{ℕ, _+_, _<_}
 use mathlib.Core.Path.{_≡_}
 use mathlib.Core.List.{List, _∷_, List·Memᴰ}
 use Rattle.words.specs.Lists.{joined}
-use Rattle.words.specs.Words.{positions, conductor, childWord}
+use Rattle.words.specs.Words.{conductor, childWord}
+use Rattle.words.specs.Positions.{positions}
 use Rattle.words.specs.Elements.{rightGenerators}
 use Rattle.words.specs.Tree.{leaves}
 

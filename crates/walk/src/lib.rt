@@ -4,7 +4,7 @@ ghost use mathlib.Core.Path.{_≡_};
 ghost use mathlib.Core.List.{List·Memᴰ};
 ghost use lib.ListN.{length};
 ghost use Rattle.words.specs.Lists.{onFrom};
-ghost use Rattle.words.specs.Words.{above};
+ghost use Rattle.words.specs.Positions.{above};
 ghost use Rattle.words.specs.Answers.{answered};
 ghost use Rattle.words.specs.Tree.{leaves};
 ghost use Rattle.tables.specs.Levels.{NodeWithLevels};

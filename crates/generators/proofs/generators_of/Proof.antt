@@ -6,7 +6,7 @@ use native.Mathlib.Omega.{arith}
 use native.Mathlib.Nat.{zero-add}
 use lib.ListN.{length, length-map}
 use borrow.Author.Needs.{needs}
-use Rattle.words.specs.Words.{positions}
+use Rattle.words.specs.Positions.{positions}
 use Rattle.words.specs.Answers.{given}
 use Rattle.words.proofs.StandingBits.{positions-le}
 use Rattle.generators.specs.Generators.{minimalGenerators, ListAnswer}

@@ -7,7 +7,7 @@ use native.Mathlib.Omega.{arith}
 use borrow.Author.Tests.{eq-eqb, ne-eqb}
 use Rattle.words.proofs.Bits.{bit-test}
 use lib.ListN.{length, take}
-use Rattle.words.specs.Words.{positions}
+use Rattle.words.specs.Positions.{positions}
 use Rattle.words.specs.Lists.{fronted}
 use Rattle.generators.proofs.Writing.{standingBefore, BitsWritten, start-writing, place-left, write-next, write-none}
 use Rattle.generators.proofs.write_bits.Statement.{statement}

@@ -6,8 +6,7 @@ use native.Mathlib.Omega.{arith}
 use borrow.Author.Tests.{lt-leb, le-leb}
 use Rattle.words.specs.Answers.{given}
 use Rattle.words.proofs.Answers.{number-range}
-use Rattle.listing.specs.Text.{lineFeed, field, refusedWord, refusalLine}
-use Rattle.listing.specs.Writing.{refusalLineOf}
+use Rattle.listing.specs.Text.{lineFeed, field, refusedWord, refusalLine, refusalLineOf}
 use Rattle.listing.proofs.Lines.{field-le-3}
 use Rattle.listing.proofs.Writing.{puts-as, puts-on, puts-front}
 use borrow.Author.Needs.{needs}

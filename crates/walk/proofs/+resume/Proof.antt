@@ -4,7 +4,7 @@ use mathlib.Core.Path.{_≡_, sym, ap, subst, _∙_}
 use native.Mathlib.Omega.{arith}
 use borrow.Fn.Kinds.{In}
 use borrow.Fn.PlainCycle.{Measures, is, falls, and}
-use Rattle.words.specs.Words.{above}
+use Rattle.words.specs.Positions.{above}
 use Rattle.tables.specs.Nodes.{firstRow}
 use Rattle.walk.specs.Branches.{Offsets}
 use Rattle.walk.specs.Lending.{putAll}
