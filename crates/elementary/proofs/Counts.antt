@@ -1,7 +1,8 @@
 -- The number of elementary semigroups of genus g with the largest gap F (corollary 4 of source 002). Assumes nothing.
 use Prim.Native.Nat.{ℕ, _+_, _-_, _*_, _/_, _≤_, _<_}
 use mathlib.Core.Path.{_≡_, sym, _∙_, ap, subst, subst₂, fun-ext}
-use mathlib.Core.Bool.{_&&_, and-eq-true-iff}
+use mathlib.Core.Logic.{_↔_}
+use mathlib.Core.Bool.{true, and-eq-true-iff}
 use mathlib.Core.List.{List, map, List·Memᴰ, Memᴰ·map, Memᴰ·of-map, Memᴰ·cast}
 use native.Mathlib.Omega.{arith}
 use native.Mathlib.Nat.{ℕ-set}
@@ -17,7 +18,7 @@ use Rattle.words.proofs.Words.{GapList, word-lt, gaps-of-word, word-of-gaps}
 use Rattle.words.proofs.Closure.{closed-iff}
 use Rattle.words.proofs.GenusList.{genus-list-mem, mem-genus-list, genus-list-sound, genus-list-complete, genus-list-ordered, earlier-asym}
 use Rattle.words.specs.Answers.{given}
-use Rattle.elementary.specs.Elementary.{IsElementary, elementary, elementaryList, elementaryCount, AllElementary, binomial, formula}
+use Rattle.elementary.specs.Elementary.{IsElementary, elementary, elementaryList, elementaryCount, AllElementary, binomial, inRange, formula}
 use Rattle.elementary.specs.Answers.{elementaryOf}
 use Rattle.elementary.proofs.Gaps.{ElementaryGaps, elementary-range, gapLists, length-gap-lists, gap-lists-mem, mem-gap-lists, gap-lists-ordered}
 use Rattle.elementary.proofs.Words.{elementary-iff, elementary-gaps, gaps-elementary, gaps-closed}
@@ -88,13 +89,21 @@ module _ (F g : ℕ) (small : g ≤ 32) where
   unfolding elementaryCount
   count-outside h = ap length (nothing (elementaryList F g) λ w m. let (a, b) = elementary-range F g (gaps w) (counted-gaps m) in h a b)
 
+  -- the test of the range
+  range-iff : (inRange F g ≡ true) ↔ ((g ≤ F) × (F < 2 * g))
+  unfolding inRange
+  range-iff = (
+    λ e. let (a, b) = and-eq-true-iff (leb g F) (ltb F (2 * g)) .0 e in (leb-true g F a, ltb-true F (2 * g) b),
+    λ (a, b). and-eq-true-iff (leb g F) (ltb F (2 * g)) .1 (le-leb g F a, lt-ltb F (2 * g) b),
+  )
+
   -- the number of the semigroups is that of the formula
   pub count-formula : elementaryCount F g ≡ formula F g
   unfolding formula
   count-formula =
-      by-value (leb g F && ltb F (2 * g))
-      (λ e. let (a, b) = and-eq-true-iff (leb g F) (ltb F (2 * g)) .0 e in rw e (count-inside (leb-true g F a) (ltb-true F (2 * g) b)))
-      (λ e. rw e (count-outside (λ a b. not-both (and-eq-true-iff (leb g F) (ltb F (2 * g)) .1 (le-leb g F a, lt-ltb F (2 * g) b)) e)))
+      by-value (inRange F g)
+      (λ e. let (a, b) = range-iff .0 e in rw e (count-inside a b))
+      (λ e. rw e (count-outside (λ a b. not-both (range-iff .1 (a, b)) e)))
 
 -- corollary 4, of the call: for each genus up to 32 it gives the number of the formula
 pub elementary-formula : (F g : ℕ) → g ≤ 32 → elementaryOf F g ≡ given (formula F g)
