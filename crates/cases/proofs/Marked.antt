@@ -9,7 +9,7 @@ use Rattle.words.specs.Lists.{fronted}
 use Rattle.words.specs.GenusList.{genusList}
 use Rattle.words.specs.Answers.{Answer, refused, given, lookOf}
 use Rattle.words.specs.declared.Report.{Report}
-use Rattle.words.proofs.Answers.{look-given}
+use Rattle.words.proofs.Answers.{look-given, room}
 use Rattle.words.proofs.Cases.{known-looks, known-list}
 use Rattle.tables.specs.Answers.{tableOf, childOf}
 use Rattle.tables.proofs.Cases.{known-tables, known-children, no-child-at-32}
@@ -18,7 +18,6 @@ use Rattle.walk.specs.Walks.{freshOf}
 use Rattle.walk.specs.Demand3.{atlas, batches}
 use Rattle.walk.proofs.Cases.{answerAndList, genus-four}
 use Rattle.generators.specs.Generators.{minimalGenerators, generatorsOf, wordFromOf}
-use Rattle.generators.proofs.MinimalGenerators.{room as generators-room}
 use Rattle.generators.proofs.Cases.{known-generators, known-words}
 use Rattle.elementary.specs.Answers.{elementaryOf}
 use Rattle.elementary.proofs.Cases.{known-counts}
@@ -60,11 +59,11 @@ number i e = ap (λ (l : List (Answer ℕ)). getD l i (refused 0)) e
 
 -- the word 91 is accepted, and its generators are 3, 8 and 10
 generators-of-91 : (lent : List ℕ) → 3 ≤ length lent → generatorsOf 91 lent ≡ record { answer = given 3; list = 3 ∷ 8 ∷ 10 ∷ drop 3 lent }
-unfolding fronted
-generators-of-91 lent room =
+unfolding fronted generatorsOf
+generators-of-91 lent long =
     let three : minimalGenerators 91 ≡ 3 ∷ 8 ∷ 10 ∷ [] = ap (λ (l : List (List ℕ)). getD l 1 []) known-generators in
     let accepted = look-given 91 _ (look 4) .0 in
-    generators-room 91 lent accepted (omega (arith, ap length three))
+    room 91 (minimalGenerators 91) lent accepted (omega (arith, ap length three))
     ∙ ap (λ (l : List ℕ). record { answer = given (length l); list = fronted l lent }) three
 
 pub marked : Marked

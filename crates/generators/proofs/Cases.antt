@@ -2,13 +2,13 @@
 use mathlib.Core.Path.{_≡_, refl}
 use mathlib.Core.List.{[], _∷_, map}
 use Rattle.words.specs.Lists.{run, keep, keepIf, every, lastOr, fronted}
-use Rattle.words.specs.Sets.{sumOfTwo}
+use Rattle.words.specs.Sets.{sumOfTwo, gapsTo}
 use Rattle.words.specs.Words.{bit, setOf, gaps, genus, largestGap, conductor, closed, wordOf}
 use Rattle.words.specs.Elements.{multiplicity, generator}
-use Rattle.words.specs.Answers.{refused, given, askWord}
+use Rattle.words.specs.Answers.{refused, given, askWord, unchanged, listedInto}
 use Rattle.generators.specs.Divisors.{euclid, gcd, gcdOf}
-use Rattle.generators.specs.Sums.{further, sumsDown, spans, gapsTo}
-use Rattle.generators.specs.Generators.{minimalGenerators, unchanged, generatorsOf, fewGaps, wordFromOf}
+use Rattle.generators.specs.Sums.{further, sumsDown, spans}
+use Rattle.generators.specs.Generators.{minimalGenerators, generatorsOf, fewGaps, wordFromOf}
 
 -- the words 0 and 91
 pub known-generators : map minimalGenerators (0 ∷ 91 ∷ []) ≡ (1 ∷ []) ∷ (3 ∷ 8 ∷ 10 ∷ []) ∷ []
@@ -24,5 +24,5 @@ known-words = refl
 -- the generators of 91 into a list of four places, where the last stays, and into one of two, which is refused; those of 13, which is not closed
 pub known-listings : (generatorsOf 91 (1 ∷ 2 ∷ 4 ∷ 7 ∷ []) ≡ record { answer = given 3; list = 3 ∷ 8 ∷ 10 ∷ 7 ∷ [] })
     × (generatorsOf 91 (1 ∷ 2 ∷ []) ≡ unchanged (1 ∷ 2 ∷ []) 6) × (generatorsOf 13 [] ≡ unchanged [] 2)
-unfolding run keep keepIf every lastOr sumOfTwo bit setOf gaps genus largestGap conductor closed multiplicity generator minimalGenerators fronted askWord generatorsOf
+unfolding run keep keepIf every lastOr sumOfTwo bit setOf gaps genus largestGap conductor closed multiplicity generator minimalGenerators fronted askWord listedInto generatorsOf
 known-listings = (refl, refl, refl)

@@ -3,49 +3,22 @@ use Prim.Native.Nat.{ℕ, zero, suc, _+_, _-_, _≤_, _<_}
 use mathlib.Core.Path.{_≡_, sym, ap, _∙_}
 use mathlib.Core.Logic.{_↔_}
 use mathlib.Core.Bool.{true, false, not}
-use mathlib.Core.List.{List·Memᴰ}
 use native.Mathlib.Omega.{arith}
 use native.Mathlib.Nat.{lt-of-not-le}
 use lib.Dec.{ltb}
 use lib.ListN.{length}
 use borrow.Author.Tests.{ltb-true, ltb-false, not-true}
-use Rattle.words.specs.Lists.{run, Ordered}
-use Rattle.words.specs.Sets.{Set, ClosedUnderAddition}
+use Rattle.words.specs.Sets.{Set, ClosedUnderAddition, gapsTo}
 use Rattle.words.proofs.Booleans.{not-both, is-true, by-value}
-use Rattle.words.proofs.Lists.{run-mem, mem-run, keep-mem, mem-keep, keep-out, ordered-run, ordered-keep}
-use Rattle.words.proofs.Counting.{countBelow, count-up, count-le-length, length-kept, half-gaps}
-use Rattle.generators.specs.Sums.{gapsTo, AtMostGaps}
-
--- a gap is positive
-pub gap-positive : (S : Set) → S 0 ≡ true → (x : ℕ) → S x ≡ false → 0 < x
-gap-positive S zero-in zero e = absurd (not-both zero-in e)
-gap-positive S zero-in (suc x) e = omega arith
+use Rattle.words.proofs.Counting.{count-up, count-le-length, half-gaps, gaps-to-count}
+use Rattle.words.proofs.Sets.{gap-positive, mem-gaps-to, gaps-to-ordered}
+use Rattle.generators.specs.Sums.{AtMostGaps}
 
 module _ (S : Set) where
-  -- the gaps up to n
-  pub gaps-to-mem : {x : ℕ} (n : ℕ) → List·Memᴰ x (gapsTo S n) → (0 < x) × (x ≤ n) × (S x ≡ false)
-  unfolding gapsTo
-  gaps-to-mem {x} n m = let (i, e) = keep-mem _ (run 1 n) m in let h = run-mem 1 n i in (h .0, omega arith, not-true _ e)
-
-  -- a gap up to n is among them
-  pub mem-gaps-to : (n x : ℕ) → 0 < x → x ≤ n → S x ≡ false → List·Memᴰ x (gapsTo S n)
-  unfolding gapsTo
-  mem-gaps-to n x pos h e = mem-keep _ (run 1 n) (mem-run 1 n pos (omega arith)) (ap not e)
-
-  -- they rise
-  pub gaps-to-ordered : (n : ℕ) → Ordered _<_ (gapsTo S n)
-  unfolding gapsTo
-  gaps-to-ordered n = ordered-keep _<_ _ (run 1 n) (ordered-run 1 n)
-
-  -- as many as the numbers below n + 1 that are gaps
-  pub gaps-to-count : S 0 ≡ true → (n : ℕ) → length (gapsTo S n) ≡ countBelow (λ x. not (S x)) (suc n)
-  unfolding gapsTo run
-  gaps-to-count zero-in n = ap length (sym (keep-out (λ x. not (S x)) 0 (run 1 n) (ap not zero-in))) ∙ length-kept (λ x. not (S x)) (suc n)
-
   -- no more than a bound on the gaps
   pub gaps-to-le : S 0 ≡ true → (n k : ℕ) → AtMostGaps n S → length (gapsTo S k) ≤ n
   gaps-to-le zero-in n k (l, ordered, short, all) =
-      omega (arith, gaps-to-count zero-in k, count-le-length (λ x. not (S x)) (suc k) l (λ x e. all x (not-true _ e)))
+      omega (arith, gaps-to-count S zero-in k, count-le-length (λ x. not (S x)) (suc k) l (λ x e. all x (not-true _ e)))
 
 module _ (S : Set) (zero-in : S 0 ≡ true) (sums : ClosedUnderAddition S) where
   module _ (few : length (gapsTo S 127) ≤ 32) where

@@ -4,7 +4,7 @@ pub mod Few
 pub mod Writing
 pub mod MinimalGenerators
 pub mod WordFrom
-pub mod BitSets
+pub mod Membership
 pub mod Scan
 pub mod LowGenerators
 pub mod Cases

@@ -12,7 +12,7 @@ use borrow.Author.Tests.{ltb-true, lt-ltb, not-true, not-false}
 use Rattle.words.specs.Lists.{run, keep, every}
 use Rattle.words.specs.Sets.{Set, sumOfTwo}
 use Rattle.words.specs.Words.{setOf, conductor}
-use Rattle.words.specs.Positions.{positions}
+use Rattle.words.specs.Positions.{positions, bitsFrom}
 use Rattle.words.specs.Elements.{generator}
 use Rattle.words.specs.Answers.{given}
 use Rattle.words.proofs.Booleans.{not-both, is-false, by-value, true-together}
@@ -22,16 +22,16 @@ use Rattle.words.proofs.Sets.{sum-of, sum-found, same-sums}
 use Rattle.words.proofs.Elements.{conductor-pos, generator-parts}
 use Rattle.words.proofs.Closure.{conductor-le-64}
 use Rattle.words.proofs.Answers.{word-given}
+use Rattle.words.proofs.BitSets.{bits-from-is, bits-from-same, bits-from-listed, bits-from-none, bits-from-not, bits-from-or, bits-from-and, bits-from-shl}
 use Rattle.tables.specs.Seeds.{setBelow}
 use Rattle.tables.specs.Nodes.{nodeOf, firstRow}
 use Rattle.tables.specs.Answers.{nodeAnswer}
 use Rattle.tables.specs.declared.Node.{Node}
 use Rattle.tables.proofs.FirstRow.{right-generators-row}
 use Rattle.tables.proofs.Seeds.{below-in, in-below}
-use Rattle.generators.specs.BitSets.{bitsFrom, lowGenerator, ConductorAndRow}
 use Rattle.generators.specs.Generators.{minimalGenerators}
 use Rattle.generators.proofs.MinimalGenerators.{generators-parts}
-use Rattle.generators.proofs.BitSets.{bits-from-is, bits-from-same, bits-from-listed, bits-from-none, bits-from-not, bits-from-or, bits-from-and, bits-from-shl}
+use Rattle.generators.specs.Private.{lowGenerator, ConductorAndRow}
 
 -- ---- sums of two
 

@@ -2,28 +2,24 @@
 use Prim.Native.Nat.{ℕ, zero, suc, _+_, _*_, _/_, _%_, _^_, _≤_, _<_, _∣_}
 use mathlib.Core.Path.{_≡_, refl, sym, ap, subst, _∙_}
 use mathlib.Core.Logic.{_≢_}
-use mathlib.Core.Bool.{Bool, true, false}
+use mathlib.Core.Bool.{true}
 use mathlib.Core.List.{List, _++_, map, List·Memᴰ, Memᴰ·cast, Memᴰ·of-map}
 use native.Mathlib.Omega.{arith}
 use native.Mathlib.Nat.{le-refl, le-dest, zero-mul, suc-mul, add-mul, div-add-mod', mod-lt, lt-of-mul-lt-mul-right, dvd-add-iff-right, eq-one-of-dvd-one}
-use lib.Dec.{leb}
 use lib.ListN.{length, length-map}
-use borrow.Author.Tests.{leb-true, le-leb, lt-leb}
-use Rattle.words.specs.Lists.{run, keep, Ordered, fronted}
+use Rattle.words.specs.Lists.{run, keep, Ordered}
 use Rattle.words.specs.Sets.{sumOfTwo}
 use Rattle.words.specs.Words.{setOf, genus, conductor, closed}
 use Rattle.words.specs.Elements.{multiplicity, generator, rightGenerators}
-use Rattle.words.specs.Answers.{refused, given, ask, askWord, Accepted}
 use Rattle.words.proofs.Booleans.{not-both, by-value, true-together}
 use Rattle.words.proofs.Lists.{mem-run, run-below, keep-mem, mem-keep, keep-append, ordered-run, ordered-keep, ordered-map}
 use Rattle.words.proofs.Sets.{sum-of, sum-found}
 use Rattle.words.proofs.Counting.{count-not, length-le-count}
 use Rattle.words.proofs.Elements.{multiplicity-in, multiplicity-pos, multiplicity-le-genus, multiplicity-le-conductor, element-from-conductor, generator-parts, generator-of, generator-below}
 use Rattle.words.proofs.Closure.{closed-iff, conductor-le-64}
-use Rattle.words.proofs.Answers.{asked}
 use Rattle.generators.specs.Divisors.{gcdOf}
 use Rattle.generators.specs.Sums.{SumOf, spans}
-use Rattle.generators.specs.Generators.{minimalGenerators, ListAnswer, unchanged, filled, generatorsOf}
+use Rattle.generators.specs.Generators.{minimalGenerators}
 use Rattle.generators.proofs.Divisors.{gcd-divides}
 use Rattle.generators.proofs.Sums.{sum-zero, sum-add, sum-member, sum-split, spans-iff, sum-in, divides-sum}
 
@@ -141,54 +137,3 @@ module _ (w : ℕ) (fits : w < 2 ^ 64) where
       λ l. not-both (sum-found (setOf w) x (s .part) (s .rest) (s .part-pos) l (s .sum) (in-set (s .part) (sum-member A (s .part-in))) (in-set (s .rest) (s .rest-sum))) alone in
       let whole : x ≡ s .part = omega (arith, s .sum) in
       Memᴰ·cast whole (s .part-in)
-
--- ---- what the call answers
-
-module _ (w : ℕ) (lent : List ℕ) where
-  -- the ending by the three questions
-  abbrev by-tests : Bool → Bool → Bool → ListAnswer
-  by-tests few sums holds = ask few (unchanged lent 1) (ask sums (unchanged lent 2) (ask holds (unchanged lent 6) (filled w lent)))
-
-  -- the number of generators and the list are told just of accepted words
-  pub generators-given : (l : List ℕ) (n : ℕ) → generatorsOf w lent ≡ record { answer = given n; list = l }
-      → Accepted w × (n ≡ length (minimalGenerators w)) × (l ≡ fronted (minimalGenerators w) lent)
-  unfolding generatorsOf askWord
-  generators-given l n e = by-questions (leb (genus w) 32) refl (closed w) refl (leb (length (minimalGenerators w)) (length lent)) e
-    where
-      by-questions : (few : Bool) → leb (genus w) 32 ≡ few → (sums : Bool) → closed w ≡ sums → (holds : Bool)
-          → by-tests few sums holds ≡ record { answer = given n; list = l }
-          → Accepted w × (n ≡ length (minimalGenerators w)) × (l ≡ fronted (minimalGenerators w) lent)
-      by-questions true p true q true e =
-          let same : given (length (minimalGenerators w)) ≡ given n = ap (λ (r : ListAnswer). r .answer) e in
-          let count : n ≡ length (minimalGenerators w) = cc in
-          (record { closed = q; few = leb-true (genus w) 32 p }, count, sym (ap (λ (r : ListAnswer). r .list) e))
-      by-questions true p true q false e = let z : _≡_ {A = ℕ} 0 1 = cc (ap (λ (r : ListAnswer). r .answer) e) in absurd (omega arith)
-      by-questions true p false q holds e = let z : _≡_ {A = ℕ} 0 1 = cc (ap (λ (r : ListAnswer). r .answer) e) in absurd (omega arith)
-      by-questions false p sums q holds e = let z : _≡_ {A = ℕ} 0 1 = cc (ap (λ (r : ListAnswer). r .answer) e) in absurd (omega arith)
-
-  -- a refusal writes nothing
-  pub refusal-unchanged : (n : ℕ) → generatorsOf w lent .answer ≡ refused n → generatorsOf w lent ≡ unchanged lent n
-  unfolding generatorsOf askWord
-  refusal-unchanged n e = by-questions (leb (genus w) 32) (closed w) (leb (length (minimalGenerators w)) (length lent)) e
-    where
-      unchanged-as : (m : ℕ) → unchanged lent m .answer ≡ refused n → unchanged lent m ≡ unchanged lent n
-      unchanged-as m e = let same : m ≡ n = cc in ap (unchanged lent) same
-
-      by-questions : (few sums holds : Bool) → by-tests few sums holds .answer ≡ refused n → by-tests few sums holds ≡ unchanged lent n
-      by-questions true true true e = absurd (let z : _≡_ {A = ℕ} 0 1 = cc in omega arith)
-      by-questions true true false e = unchanged-as 6 e
-      by-questions true false holds e = unchanged-as 2 e
-      by-questions false sums holds e = unchanged-as 1 e
-
-  module _ (h : Accepted w) where
-    generators-asked : generatorsOf w lent ≡ ask (leb (length (minimalGenerators w)) (length lent)) (unchanged lent 6) (filled w lent)
-    unfolding generatorsOf
-    generators-asked = asked (unchanged lent) w _ h
-
-    -- a list that does not hold the generators is refused
-    pub no-room : length lent < length (minimalGenerators w) → generatorsOf w lent ≡ unchanged lent 6
-    no-room l = generators-asked ∙ simp (lt-leb (length (minimalGenerators w)) (length lent) l)
-
-    -- in one that does they are listed
-    pub room : length (minimalGenerators w) ≤ length lent → generatorsOf w lent ≡ filled w lent
-    room l = generators-asked ∙ simp (le-leb (length (minimalGenerators w)) (length lent) l)

@@ -13,18 +13,20 @@ use lib.Pow.{pow-pos}
 use lib.ListN.{length, length-append}
 use borrow.Author.Tests.{leb-true, leb-false, le-leb, eqb-false, ne-eqb, not-true}
 use Rattle.words.specs.Lists.{run, keep}
-use Rattle.words.specs.Sets.{Set}
+use Rattle.words.specs.Sets.{Set, gapsTo}
 use Rattle.words.specs.Words.{bit, digit, setOf, wordOf}
 use Rattle.words.proofs.Booleans.{not-both, is-true, by-value, true-together}
 use Rattle.words.proofs.Lists.{keep-more-in, keep-more-out}
 use Rattle.words.proofs.Bits.{bit-and, bit-or, bit-zero, digit-lt, bit-pow, bit-shl, bit-shl-low, bit-mod, one-shl, clear-disjoint, bit-digit}
-use Rattle.words.proofs.Words.{GapList, word-gaps, word-append}
+use Rattle.words.proofs.Words.{GapList, gaps-to-list, word-gaps, word-append}
 use Rattle.words.proofs.StandingBits.{some-stands}
-use Rattle.generators.specs.Sums.{SumOf, spans, sumsDown, gapsTo}
-use Rattle.generators.specs.BitSets.{memberOf, bitsFrom}
+use Rattle.words.specs.Positions.{bitsFrom}
+use Rattle.words.proofs.Sets.{gaps-to-mem}
+use Rattle.words.proofs.BitSets.{bits-from-bit, bits-from-lt, bits-from-is}
+use Rattle.generators.specs.Sums.{SumOf, spans, sumsDown}
 use Rattle.generators.proofs.Sums.{sum-more, sum-member, sum-split, spans-iff}
-use Rattle.generators.proofs.Few.{gaps-to-mem, gaps-to-ordered}
-use Rattle.generators.proofs.BitSets.{bits-from-bit, bits-from-lt, bits-from-is, member-iff}
+use Rattle.generators.specs.Private.{memberOf}
+use Rattle.generators.proofs.Membership.{member-iff}
 
 -- ---- the gaps, one number more
 
@@ -46,8 +48,7 @@ pub word-out : (S : Set) (n : ℕ) → n < 64 → S (n + 1) ≡ false → bitOr 
 unfolding wordOf setOf
 word-out S n h e =
     let w : ℕ = wordOf (gapsTo S n) in
-    let listed : GapList 1 (gapsTo S n) =
-    record { ordered = gaps-to-ordered S n; within = λ x m. let (a, b, f) = gaps-to-mem S n m in (a, omega arith) } in
+    let listed : GapList 1 (gapsTo S n) = gaps-to-list S n (omega arith) in
     let clear : setOf w (suc n) ≡ true = is-true (setOf w (suc n)) (λ f. omega (arith, gaps-to-mem S n (word-gaps (gapsTo S n) listed .all (suc n) f) .1)) in
     let last : n + 1 - 1 ≡ n = omega arith in
     or-disjoint w (2 ^ n) (clear-disjoint w n (not-true _ clear))

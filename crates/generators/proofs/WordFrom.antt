@@ -9,79 +9,23 @@ use lib.Dec.{eqb, ltb}
 use lib.ListN.{length, take}
 use borrow.Author.Tests.{ltb-true, ltb-false, lt-ltb, leb-true, le-leb, eqb-true, eqb-false, eq-eqb, ne-eqb}
 use Rattle.words.specs.Lists.{every}
-use Rattle.words.specs.Sets.{Set, sumOfTwo, ClosedUnderAddition, GapsOf}
+use Rattle.words.specs.Sets.{Set, sumOfTwo, ClosedUnderAddition, GapsOf, gapsTo}
 use Rattle.words.specs.Words.{setOf, gaps, genus, wordOf}
-use Rattle.words.specs.Answers.{Answer, refused, given, ask, Accepted}
+use Rattle.words.specs.Answers.{refused, given, Accepted, filled}
 use Rattle.words.proofs.Booleans.{not-both, is-false}
 use Rattle.words.proofs.Lists.{every-mem, mem-every, every-false, fronted-front}
-use Rattle.words.proofs.Sets.{same-of-gaps}
-use Rattle.words.proofs.Words.{GapList, word-gaps, word-lt, gaps-of, same-set}
+use Rattle.words.proofs.Words.{gaps-of, same-set, word-of-set}
 use Rattle.words.proofs.Closure.{closed-iff}
+use Rattle.words.proofs.Answers.{first-no, second-no, third-no, all-yes, list-given, room}
 use Rattle.generators.specs.Divisors.{gcdOf}
-use Rattle.generators.specs.Sums.{spans, gapsTo, AtMostGaps, Positive, WordOfSums}
-use Rattle.generators.specs.Generators.{minimalGenerators, generatorsOf, filled, fewGaps, wordFromOf}
+use Rattle.generators.specs.Sums.{spans, AtMostGaps, Positive, WordOfSums}
+use Rattle.generators.specs.Generators.{minimalGenerators, generatorsOf, fewGaps, wordFromOf}
 use Rattle.generators.proofs.Sums.{sum-zero, spans-iff, spans-closed}
-use Rattle.generators.proofs.Few.{gaps-to-mem, mem-gaps-to, gaps-to-ordered, gap-positive, gap-below-64, gaps-to-le, few-iff}
-use Rattle.generators.proofs.MinimalGenerators.{generators-mem, mem-generators, generators-span, generators-gcd, generators-least, generators-given, room}
+use Rattle.generators.proofs.Few.{gap-below-64, gaps-to-le, few-iff}
+use Rattle.generators.proofs.MinimalGenerators.{generators-mem, mem-generators, generators-span, generators-gcd, generators-least}
 use Rattle.words.proofs.Elements.{generator-parts, generator-of}
 
--- ---- the word of a set
-
-module _ (S : Set) (zero-in : S 0 ≡ true) (within : (x : ℕ) → S x ≡ false → x ≤ 64) where
-  gap-list : GapList 1 (gapsTo S 64)
-  gap-list = record { ordered = gaps-to-ordered S 64; within = λ x m. let (a, b, e) = gaps-to-mem S 64 m in (a, omega arith) }
-
-  -- where all gaps of S are at most 64, the word of those up to 64 has the set S
-  pub word-of-set : (wordOf (gapsTo S 64) < 2 ^ 64) × ((x : ℕ) → setOf (wordOf (gapsTo S 64)) x ≡ S x)
-  word-of-set = (
-    word-lt (gapsTo S 64) gap-list,
-    same-of-gaps (setOf (wordOf (gapsTo S 64))) S (gapsTo S 64) (word-gaps (gapsTo S 64) gap-list) (record {
-      rising = gaps-to-ordered S 64;
-      missed = λ x m. gaps-to-mem S 64 m .2;
-      all = λ x e. mem-gaps-to S 64 x (gap-positive S zero-in x e) (within x e) e;
-    }),
-  )
-
 -- ---- the questions
-
--- which tests fail for which answer
-module _ (v : ℕ) where
-  -- the answer by the three tests
-  abbrev answer : Bool → Bool → Bool → Answer ℕ
-  answer p q r = ask p (refused 7) (ask q (refused 8) (ask r (refused 9) (given v)))
-
-  -- the number of the answer, 0 for a word
-  numbered : Answer ℕ → ℕ
-  numbered (refused n) = n
-  numbered (given w) = 0
-
-  by-zero : (p q r : Bool) → answer p q r ≡ refused 7 → p ≡ false
-  unfolding numbered
-  by-zero false q r e = refl
-  by-zero true false r e = absurd (omega (arith, ap numbered e))
-  by-zero true true false e = absurd (omega (arith, ap numbered e))
-  by-zero true true true e = absurd (omega (arith, ap numbered e))
-
-  by-divisor : (p q r : Bool) → answer p q r ≡ refused 8 → (p ≡ true) × (q ≡ false)
-  unfolding numbered
-  by-divisor false q r e = absurd (omega (arith, ap numbered e))
-  by-divisor true false r e = (refl, refl)
-  by-divisor true true false e = absurd (omega (arith, ap numbered e))
-  by-divisor true true true e = absurd (omega (arith, ap numbered e))
-
-  by-gaps : (p q r : Bool) → answer p q r ≡ refused 9 → (p ≡ true) × (q ≡ true) × (r ≡ false)
-  unfolding numbered
-  by-gaps false q r e = absurd (omega (arith, ap numbered e))
-  by-gaps true false r e = absurd (omega (arith, ap numbered e))
-  by-gaps true true false e = (refl, refl, refl)
-  by-gaps true true true e = absurd (omega (arith, ap numbered e))
-
-  by-word : (w : ℕ) (p q r : Bool) → answer p q r ≡ given w → (p ≡ true) × (q ≡ true) × (r ≡ true) × (v ≡ w)
-  unfolding numbered
-  by-word w false q r e = absurd (omega (arith, ap numbered e))
-  by-word w true false r e = absurd (omega (arith, ap numbered e))
-  by-word w true true false e = absurd (omega (arith, ap numbered e))
-  by-word w true true true e = (refl, refl, refl, cc)
 
 module _ (A : List ℕ) where
   positive-iff : (every (ltb 0) A ≡ true) ↔ Positive A
@@ -113,7 +57,7 @@ module _ (A : List ℕ) where
   unfolding wordFromOf
   refused-zero = (
     λ e.
-        let (a, m, f) = every-false (ltb 0) A (by-zero word positives coprime (fewGaps A) e) in
+        let (a, m, f) = every-false (ltb 0) A (first-no 7 8 9 (omega arith) (omega arith) word positives coprime (fewGaps A) e) in
         let none : 0 ≡ a = omega (arith, ltb-false 0 a f) in
         Memᴰ·cast none m,
     λ m. rw (is-false (every (ltb 0) A) (λ e. omega (arith, positive-iff .0 e 0 m))),
@@ -123,7 +67,7 @@ module _ (A : List ℕ) where
   pub refused-divisor : (wordFromOf A ≡ refused 8) ↔ (Positive A × (gcdOf A ≢ 1))
   unfolding wordFromOf
   refused-divisor = (
-    λ e. let (p, q) = by-divisor word positives coprime (fewGaps A) e in (positive-iff .0 p, eqb-false (gcdOf A) 1 q),
+    λ e. let (p, q) = second-no 7 8 9 (omega arith) (omega arith) word positives coprime (fewGaps A) e in (positive-iff .0 p, eqb-false (gcdOf A) 1 q),
     λ (h, n). rw (positive-iff .1 h, ne-eqb (gcdOf A) 1 n),
   )
 
@@ -131,7 +75,7 @@ module _ (A : List ℕ) where
   pub refused-gaps : (wordFromOf A ≡ refused 9) ↔ (Positive A × (gcdOf A ≡ 1) × ¬ AtMostGaps 32 (spans A))
   unfolding wordFromOf
   refused-gaps = (
-    λ e. let (p, q, r) = by-gaps word positives coprime (fewGaps A) e in (positive-iff .0 p, eqb-true (gcdOf A) 1 q, λ g. not-both (few-gaps-iff .1 g) r),
+    λ e. let (p, q, r) = third-no 7 8 9 (omega arith) (omega arith) word positives coprime (fewGaps A) e in (positive-iff .0 p, eqb-true (gcdOf A) 1 q, λ g. not-both (few-gaps-iff .1 g) r),
     λ (h, g, n). rw (positive-iff .1 h, eq-eqb (gcdOf A) 1 g, is-false (fewGaps A) (λ e. n (few-gaps-iff .0 e))),
   )
 
@@ -145,7 +89,7 @@ module _ (A : List ℕ) where
   unfolding wordFromOf
   answered-word w = (
     λ e.
-        let (p, q, r, v) = by-word word w positives coprime (fewGaps A) e in
+        let (p, q, r, v) = all-yes 7 8 9 (omega arith) (omega arith) word w positives coprime (fewGaps A) e in
         let few = few-gaps-iff .0 r in
         let (fits, same) = few-word few in
         record { positive = positive-iff .0 p; coprime = eqb-true (gcdOf A) 1 q; few = few; fits = subst (λ (u : ℕ). u < 2 ^ 64) v fits; same = λ x. ap (λ (u : ℕ). setOf u x) (sym v) ∙ same x },
@@ -173,8 +117,9 @@ generators-give-word w fits h =
 
 -- what the call writes of an accepted word, given back, gives the word
 pub listed-give-word : (w : ℕ) → w < 2 ^ 64 → (lent l : List ℕ) (n : ℕ) → generatorsOf w lent ≡ record { answer = given n; list = l } → wordFromOf (take n l) ≡ given w
+unfolding generatorsOf
 listed-give-word w fits lent l n e =
-    let (h, count, list) = generators-given w lent l n e in
+    let (h, count, list) = list-given w (minimalGenerators w) lent l n e in
     ap₂ (λ (k : ℕ) (m : List ℕ). wordFromOf (take k m)) count list ∙ ap wordFromOf (fronted-front (minimalGenerators w) lent)
     ∙ generators-give-word w fits h
 
@@ -209,5 +154,6 @@ module _ (A : List ℕ) (w : ℕ) (made : wordFromOf A ≡ given w) where
   made-among m = generators-least w (sums .fits) A (λ x. sym (sums .same x)) m
 
   -- the call lists them, in a list that holds them
-  pub made-listed : (lent : List ℕ) → length (minimalGenerators w) ≤ length lent → generatorsOf w lent ≡ filled w lent
-  made-listed lent h = room w lent (made-accepted .1) h
+  pub made-listed : (lent : List ℕ) → length (minimalGenerators w) ≤ length lent → generatorsOf w lent ≡ filled (minimalGenerators w) lent
+  unfolding generatorsOf
+  made-listed lent h = room w (minimalGenerators w) lent (made-accepted .1) h

@@ -8,12 +8,13 @@ ghost use lib.Bits.{bitAnd};
 ghost use lib.ListN.{length, take};
 ghost use Rattle.words.specs.Lists.{every, fronted};
 ghost use Rattle.words.specs.Words.{bit, conductor, wordOf};
-ghost use Rattle.words.specs.Positions.{positions};
-ghost use Rattle.words.specs.Answers.{answered};
+ghost use Rattle.words.specs.Positions.{positions, bitsFrom};
+ghost use Rattle.words.specs.Answers.{answered, listed};
+ghost use Rattle.words.specs.Sets.{gapsTo};
 ghost use Rattle.generators.specs.Divisors.{gcd, gcdOf};
-ghost use Rattle.generators.specs.Sums.{spans, gapsTo};
-ghost use Rattle.generators.specs.BitSets.{memberOf, bitsFrom, ConductorAndRow, lowGenerator};
-ghost use Rattle.generators.specs.Generators.{generatorsOf, listed, wordFromOf};
+ghost use Rattle.generators.specs.Sums.{spans};
+ghost use Rattle.generators.specs.Generators.{generatorsOf, wordFromOf};
+ghost use Rattle.generators.specs.Private.{memberOf, ConductorAndRow, lowGenerator};
 use tables::NodeAnswer;
 use words::NumberAnswer;
 use words::Refusal;
@@ -56,18 +57,6 @@ fn gcd_of(list: &[u8]) -> u64
         divisor = gcd_of_two(wide(list[i]), divisor);
     }
     divisor
-}
-
-// Are all members at least 1?
-fn all_positive(list: &[u8]) -> bool
-    ensures { λ r. ⌜ r ≡ every (ltb 0) (now (list .entry)) ⌝ }
-{
-    for i in 0..list.len() {
-        if list[i] == 0 {
-            return false;
-        }
-    }
-    true
 }
 
 // The number `a` as a bit, where it is from `first` to `first + 63`; else no bit.
@@ -136,7 +125,7 @@ fn gaps_of_sums(list: &[u8]) -> Gaps
 pub fn word_from(list: &[u8]) -> NumberAnswer
     ensures { λ r. ⌜ answered r ≡ wordFromOf (now (list .entry)) ⌝ }
 {
-    if !all_positive(list) {
+    if !words::all_positive(list) {
         return NumberAnswer::Refused(Refusal::ZeroGenerator);
     }
     if gcd_of(list) != 1 {

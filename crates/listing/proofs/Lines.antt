@@ -79,7 +79,7 @@ unfolding headerOf
 header-of-le g small = header-le g (length (genusList g)) small (genus-count-fits g small)
 
 -- the line of a refusal
-pub refusal-line-le : (n : ℕ) → n ≤ 10 → length (refusalLine n) ≤ 11
+pub refusal-line-le : (n : ℕ) → n ≤ 13 → length (refusalLine n) ≤ 11
 unfolding refusalLine
 refusal-line-le n h =
     let parts : length (refusalLine n) ≡ 8 + length (field n lineFeed) = simp length-append in

@@ -1,4 +1,5 @@
--- Which words are accepted, what a look at a word tells a caller, and that the number of a refusal tells the refusal. Assumes nothing.
+-- That the number of a refusal tells the refusal, which words are accepted, what a look at a word tells a caller, and what a call that
+-- lists numbers of a word does. Assumes nothing.
 use Prim.Native.Nat.{ℕ, _-_, _^_, _≤_, _<_}
 use mathlib.Core.Path.{_≡_, refl, sym, _∙_, ap}
 use mathlib.Core.Logic.{_↔_}
@@ -6,14 +7,15 @@ use mathlib.Core.Bool.{Bool, true, false}
 use mathlib.Core.List.{List, [], _∷_}
 use native.Mathlib.Omega.{arith}
 use lib.Dec.{leb}
-use lib.ListN.{getD}
-use borrow.Author.Tests.{leb-true, le-leb}
+use lib.ListN.{length, getD}
+use borrow.Author.Tests.{leb-true, le-leb, lt-leb}
+use Rattle.words.specs.Lists.{fronted}
 use Rattle.words.specs.Sets.{ClosedUnderAddition}
 use Rattle.words.specs.Words.{setOf, genus, closed}
 use Rattle.words.specs.declared.Refusal.{Refusal}
-use Rattle.words.specs.declared.Refusal.the-variants.{TooManyGaps, NotClosed, GenusTooLarge, WalkOutOfOrder, NotAGenerator, ListTooShort, ZeroGenerator, CommonDivisor, TooManyGapsGenerated, MalformedInput}
+use Rattle.words.specs.declared.Refusal.the-variants.{TooManyGaps, NotClosed, GenusTooLarge, WalkOutOfOrder, NotAGenerator, ListTooShort, ZeroGenerator, CommonDivisor, TooManyGapsGenerated, MalformedInput, ZeroCoordinate, CoordinateSumTooLarge, FailedInequality}
 use Rattle.words.specs.declared.Report.{Report}
-use Rattle.words.specs.Answers.{Accepted, refused, given, numberOf, ask, askWord, reportOf, lookOf}
+use Rattle.words.specs.Answers.{Answer, Accepted, refused, given, numberOf, ask, askWord, reportOf, lookOf, ListAnswer, unchanged, filled, listedInto}
 use Rattle.words.proofs.Closure.{closed-iff}
 
 -- ---- numbers of refusals
@@ -22,7 +24,7 @@ use Rattle.words.proofs.Closure.{closed-iff}
 refusals : List Refusal
 refusals =
     TooManyGaps ∷ NotClosed ∷ GenusTooLarge ∷ WalkOutOfOrder ∷ NotAGenerator ∷ ListTooShort ∷ ZeroGenerator ∷ CommonDivisor
-    ∷ TooManyGapsGenerated ∷ MalformedInput ∷ []
+    ∷ TooManyGapsGenerated ∷ MalformedInput ∷ ZeroCoordinate ∷ CoordinateSumTooLarge ∷ FailedInequality ∷ []
 
 refusalOf : ℕ → Refusal
 refusalOf n = getD refusals (n - 1) MalformedInput
@@ -39,13 +41,16 @@ refusal-of-number ZeroGenerator = refl
 refusal-of-number CommonDivisor = refl
 refusal-of-number TooManyGapsGenerated = refl
 refusal-of-number MalformedInput = refl
+refusal-of-number ZeroCoordinate = refl
+refusal-of-number CoordinateSumTooLarge = refl
+refusal-of-number FailedInequality = refl
 
 -- no two refusals have the same number, so that an equation of answers leaves no case of an enum free
 pub number-decides : (r s : Refusal) → numberOf r ≡ numberOf s → r ≡ s
 number-decides r s e = sym (refusal-of-number r) ∙ ap refusalOf e ∙ refusal-of-number s
 
--- the numbers are from 1 to 10
-pub number-range : (r : Refusal) → (1 ≤ numberOf r) × (numberOf r ≤ 10)
+-- the numbers are from 1 to 13
+pub number-range : (r : Refusal) → (1 ≤ numberOf r) × (numberOf r ≤ 13)
 number-range TooManyGaps = omega arith
 number-range NotClosed = omega arith
 number-range GenusTooLarge = omega arith
@@ -56,6 +61,40 @@ number-range ZeroGenerator = omega arith
 number-range CommonDivisor = omega arith
 number-range TooManyGapsGenerated = omega arith
 number-range MalformedInput = omega arith
+number-range ZeroCoordinate = omega arith
+number-range CoordinateSumTooLarge = omega arith
+number-range FailedInequality = omega arith
+
+-- ---- three questions
+
+-- which of three questions, with rising numbers, are answered yes and no for which answer
+module _ {A : Type 0} (a b c : ℕ) (low : a < b) (high : b < c) (value : A) where
+  abbrev by-three : Bool → Bool → Bool → Answer A
+  by-three p q r = ask p (refused a) (ask q (refused b) (ask r (refused c) (given value)))
+
+  pub first-no : (p q r : Bool) → by-three p q r ≡ refused a → p ≡ false
+  first-no false q r e = refl
+  first-no true false r e = let same : b ≡ a = cc in absurd (omega arith)
+  first-no true true false e = let same : c ≡ a = cc in absurd (omega arith)
+  first-no true true true e = let z : _≡_ {A = ℕ} 0 1 = cc in absurd (omega arith)
+
+  pub second-no : (p q r : Bool) → by-three p q r ≡ refused b → (p ≡ true) × (q ≡ false)
+  second-no false q r e = let same : a ≡ b = cc in absurd (omega arith)
+  second-no true false r e = (refl, refl)
+  second-no true true false e = let same : c ≡ b = cc in absurd (omega arith)
+  second-no true true true e = let z : _≡_ {A = ℕ} 0 1 = cc in absurd (omega arith)
+
+  pub third-no : (p q r : Bool) → by-three p q r ≡ refused c → (p ≡ true) × (q ≡ true) × (r ≡ false)
+  third-no false q r e = let same : a ≡ c = cc in absurd (omega arith)
+  third-no true false r e = let same : b ≡ c = cc in absurd (omega arith)
+  third-no true true false e = (refl, refl, refl)
+  third-no true true true e = let z : _≡_ {A = ℕ} 0 1 = cc in absurd (omega arith)
+
+  pub all-yes : (v : A) (p q r : Bool) → by-three p q r ≡ given v → (p ≡ true) × (q ≡ true) × (r ≡ true) × (value ≡ v)
+  all-yes v false q r e = let z : _≡_ {A = ℕ} 0 1 = cc in absurd (omega arith)
+  all-yes v true false r e = let z : _≡_ {A = ℕ} 0 1 = cc in absurd (omega arith)
+  all-yes v true true false e = let z : _≡_ {A = ℕ} 0 1 = cc in absurd (omega arith)
+  all-yes v true true true e = (refl, refl, refl, cc)
 
 -- ---- accepted words
 
@@ -104,3 +143,50 @@ accepted-iff w fits = (
   λ e. let h = look-given w (reportOf w) e .0 in (closed-iff w fits .0 (h .closed), h .few),
   λ (s, few). asked refused w (given (reportOf w)) record { closed = closed-iff w fits .1 s; few = few },
 )
+
+-- ---- numbers of a word into a lent list
+
+module _ (w : ℕ) (l lent : List ℕ) where
+  -- the ending by the three questions
+  abbrev by-tests : Bool → Bool → Bool → ListAnswer
+  by-tests few sums holds = ask few (unchanged lent 1) (ask sums (unchanged lent 2) (ask holds (unchanged lent 6) (filled l lent)))
+
+  -- a number and a list are told just of accepted words: how many numbers there are, and the lent list with all of them in front
+  pub list-given : (after : List ℕ) (n : ℕ) → listedInto w l lent ≡ record { answer = given n; list = after }
+      → Accepted w × (n ≡ length l) × (after ≡ fronted l lent)
+  unfolding listedInto askWord
+  list-given after n e = by-questions (leb (genus w) 32) refl (closed w) refl (leb (length l) (length lent)) e
+    where
+      by-questions : (few : Bool) → leb (genus w) 32 ≡ few → (sums : Bool) → closed w ≡ sums → (holds : Bool)
+          → by-tests few sums holds ≡ record { answer = given n; list = after } → Accepted w × (n ≡ length l) × (after ≡ fronted l lent)
+      by-questions true p true q true e =
+          let same : given (length l) ≡ given n = ap (λ (r : ListAnswer). r .answer) e in
+          let count : n ≡ length l = cc in
+          (record { closed = q; few = leb-true (genus w) 32 p }, count, sym (ap (λ (r : ListAnswer). r .list) e))
+      by-questions true p true q false e = let z : _≡_ {A = ℕ} 0 1 = cc (ap (λ (r : ListAnswer). r .answer) e) in absurd (omega arith)
+      by-questions true p false q holds e = let z : _≡_ {A = ℕ} 0 1 = cc (ap (λ (r : ListAnswer). r .answer) e) in absurd (omega arith)
+      by-questions false p sums q holds e = let z : _≡_ {A = ℕ} 0 1 = cc (ap (λ (r : ListAnswer). r .answer) e) in absurd (omega arith)
+
+  -- a refusal writes nothing
+  pub refusal-unchanged : (n : ℕ) → listedInto w l lent .answer ≡ refused n → listedInto w l lent .list ≡ lent
+  unfolding listedInto askWord
+  refusal-unchanged n e = by-questions (leb (genus w) 32) (closed w) (leb (length l) (length lent)) e
+    where
+      by-questions : (few sums holds : Bool) → by-tests few sums holds .answer ≡ refused n → by-tests few sums holds .list ≡ lent
+      by-questions true true true e = absurd (let z : _≡_ {A = ℕ} 0 1 = cc in omega arith)
+      by-questions true true false e = refl
+      by-questions true false holds e = refl
+      by-questions false sums holds e = refl
+
+  module _ (h : Accepted w) where
+    list-asked : listedInto w l lent ≡ ask (leb (length l) (length lent)) (unchanged lent 6) (filled l lent)
+    unfolding listedInto
+    list-asked = asked (unchanged lent) w _ h
+
+    -- a list that does not hold the numbers of an accepted word is refused
+    pub no-room : length lent < length l → listedInto w l lent ≡ unchanged lent 6
+    no-room short = list-asked ∙ simp (lt-leb (length l) (length lent) short)
+
+    -- in one that does they are listed
+    pub room : length l ≤ length lent → listedInto w l lent ≡ filled l lent
+    room long = list-asked ∙ simp (le-leb (length l) (length lent) long)

@@ -504,6 +504,37 @@ unfolding sumOver
 sum-append f [] l = omega arith
 sum-append f (x ∷ k) l = omega (arith, sum-append f k l)
 
+module _ {A : Type 0} where
+  -- equal values have equal sums
+  pub sum-same : (f h : A → ℕ) (l : List A) → ((x : A) → List·Memᴰ x l → f x ≡ h x) → sumOver f l ≡ sumOver h l
+  unfolding sumOver
+  sum-same f h [] e = refl
+  sum-same f h (x ∷ l) e = ap₂ _+_ (e x (List·Memᴰ·head refl)) (sum-same f h l (λ y m. e y (List·Memᴰ·tail m)))
+
+  -- a sum of zeros
+  pub sum-none : (f : A → ℕ) (l : List A) → ((x : A) → List·Memᴰ x l → f x ≡ 0) → sumOver f l ≡ 0
+  unfolding sumOver
+  sum-none f [] e = refl
+  sum-none f (x ∷ l) e = omega (arith, e x (List·Memᴰ·head refl), sum-none f l (λ y m. e y (List·Memᴰ·tail m)))
+
+  -- the sum of f + h is that of f and that of h
+  pub sum-plus : (f h : A → ℕ) (l : List A) → sumOver (λ x. f x + h x) l ≡ sumOver f l + sumOver h l
+  unfolding sumOver
+  sum-plus f h [] = refl
+  sum-plus f h (x ∷ l) = omega (arith, sum-plus f h l)
+
+-- a sum along numbers one higher
+pub sum-shift : (f : ℕ → ℕ) (a n : ℕ) → sumOver f (run (suc a) n) ≡ sumOver (λ i. f (suc i)) (run a n)
+unfolding sumOver run
+sum-shift f a zero = refl
+sum-shift f a (suc n) = omega (arith, sum-shift f (suc a) n)
+
+-- the entries of a list by their places
+pub sum-places : (l : List ℕ) → sumOver (λ i. getD l i 0) (run 0 (length l)) ≡ sumOver (λ x. x) l
+unfolding sumOver run
+sum-places [] = refl
+sum-places (x ∷ l) = omega (arith, sum-shift (λ i. getD (x ∷ l) i 0) 0 (length l), sum-places l)
+
 -- along rising numbers from c to n - 1, what is at most 2 ^ (n - 1 - x) for x is together at most 2 ^ (n - c)
 pub sum-of-powers : (f : ℕ → ℕ) (n c : ℕ) (l : List ℕ) → Ordered _<_ l → ((x : ℕ) → List·Memᴰ x l → (c ≤ x) × (x < n) × (f x ≤ 2 ^ (n - suc x)))
     → sumOver f l ≤ 2 ^ (n - c)

@@ -1,13 +1,17 @@
 -- What the calls answer, by the numbers of the papers: a refusal by the number of its question, or the values that are asked for; the
--- questions that each call on a word puts first; and a look at a word. Assumes nothing: these are definitions.
+-- questions that each call on a word puts first; a look at a word; and numbers of a word that go into a lent list. Assumes nothing: these
+-- are definitions.
 use Prim.Native.Nat.{ℕ, _≤_}
 use mathlib.Core.Path.{_≡_}
 use mathlib.Core.Bool.{Bool, true, cond}
+use mathlib.Core.List.{List}
 use lib.Dec.{leb}
+use lib.ListN.{length}
+use Rattle.words.specs.Lists.{fronted}
 use Rattle.words.specs.Words.{genus, conductor, closed}
 use Rattle.words.specs.Elements.{multiplicity}
 use Rattle.words.specs.declared.Refusal.{Refusal}
-use Rattle.words.specs.declared.Refusal.the-variants.{TooManyGaps, NotClosed, GenusTooLarge, WalkOutOfOrder, NotAGenerator, ListTooShort, ZeroGenerator, CommonDivisor, TooManyGapsGenerated, MalformedInput}
+use Rattle.words.specs.declared.Refusal.the-variants.{TooManyGaps, NotClosed, GenusTooLarge, WalkOutOfOrder, NotAGenerator, ListTooShort, ZeroGenerator, CommonDivisor, TooManyGapsGenerated, MalformedInput, ZeroCoordinate, CoordinateSumTooLarge, FailedInequality}
 use Rattle.words.specs.declared.Report.{Report}
 use Rattle.words.specs.declared.NumberAnswer.{NumberAnswer}
 use Rattle.words.specs.declared.NumberAnswer.the-variants as N
@@ -31,6 +35,9 @@ numberOf ZeroGenerator = 7
 numberOf CommonDivisor = 8
 numberOf TooManyGapsGenerated = 9
 numberOf MalformedInput = 10
+numberOf ZeroCoordinate = 11
+numberOf CoordinateSumTooLarge = 12
+numberOf FailedInequality = 13
 
 -- what the cases of `NumberAnswer` say
 abbrev pub answered : NumberAnswer → Answer ℕ
@@ -63,3 +70,26 @@ lookOf w = askWord refused w (given (reportOf w))
 abbrev pub looked : LookAnswer → Answer Report
 looked (L.Refused r) = refused (numberOf r)
 looked (L.Given r) = given r
+
+-- ---- numbers of a word into a lent list
+
+-- what a call that writes into a lent list leaves: its answer, and the list afterwards
+pub record ListAnswer : Type 0 where
+  pub answer : Answer ℕ
+  pub list : List ℕ
+
+-- what `NumberAnswer` and the list afterwards say
+abbrev pub listed : NumberAnswer → List ℕ → ListAnswer
+listed r after = record { answer = answered r; list = after }
+
+-- refused with the number of the question, with nothing written
+abbrev pub unchanged : List ℕ → ℕ → ListAnswer
+unchanged lent n = record { answer = refused n; list = lent }
+
+-- how many numbers l has, with all of them written
+abbrev pub filled : List ℕ → List ℕ → ListAnswer
+filled l lent = record { answer = given (length l); list = fronted l lent }
+
+-- the numbers l of the word w into the lent list: questions 1 and 2, then 6, does the list hold all of them
+unfoldable pub listedInto : ℕ → List ℕ → List ℕ → ListAnswer
+listedInto w l lent = askWord (unchanged lent) w (ask (leb (length l) (length lent)) (unchanged lent 6) (filled l lent))

@@ -1,6 +1,8 @@
-// Gap words: the counts that belong to them, the refusals of the atlas, and looking at a word.
+// Gap words: the counts that belong to them, the refusals of the atlas, and looking at a word; and a question about lists of bytes.
 ghost use Prim.Native.Nat.{_+_, _-_, _^_, min};
 ghost use mathlib.Core.Path.{_≡_};
+ghost use lib.Dec.{ltb};
+ghost use Rattle.words.specs.Lists.{every};
 ghost use Rattle.words.specs.Words.{genus, conductor, closed};
 ghost use Rattle.words.specs.Elements.{multiplicity};
 ghost use Rattle.words.specs.Answers.{numberOf, looked, lookOf};
@@ -68,6 +70,9 @@ pub enum Refusal {
     CommonDivisor,
     TooManyGapsGenerated,
     MalformedInput,
+    ZeroCoordinate,
+    CoordinateSumTooLarge,
+    FailedInequality,
 }
 
 impl Refusal {
@@ -86,6 +91,9 @@ impl Refusal {
             Refusal::CommonDivisor => 8,
             Refusal::TooManyGapsGenerated => 9,
             Refusal::MalformedInput => 10,
+            Refusal::ZeroCoordinate => 11,
+            Refusal::CoordinateSumTooLarge => 12,
+            Refusal::FailedInequality => 13,
         }
     }
 }
@@ -159,4 +167,16 @@ pub fn look(word: u64) -> LookAnswer
         multiplicity: multiplicity_of(word),
         conductor: conductor_of(word),
     })
+}
+
+// Are all bytes of a list at least 1?
+pub fn all_positive(list: &[u8]) -> bool
+    ensures { λ r. ⌜ r ≡ every (ltb 0) (now (list .entry)) ⌝ }
+{
+    for i in 0..list.len() {
+        if list[i] == 0 {
+            return false;
+        }
+    }
+    true
 }

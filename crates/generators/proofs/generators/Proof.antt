@@ -4,7 +4,8 @@ use borrow.Author.Needs.{needs}
 use Rattle.words.proofs.Answers.{word-refused}
 use Rattle.tables.specs.Nodes.{nodeOf}
 use Rattle.tables.specs.Answers.{noded, nodeAnswer}
-use Rattle.generators.specs.Generators.{unchanged, generatorsOf}
+use Rattle.words.specs.Answers.{unchanged, listedInto}
+use Rattle.generators.specs.Generators.{generatorsOf}
 use Rattle.generators.proofs.LowGenerators.{node-known}
 use Rattle.generators.proofs.generators.Statement.{statement}
 use Rattle.generators.proofs.generators.Tie as tie
@@ -27,7 +28,7 @@ generators-of-requires c κs =
     node-known _ _ _ (sym (told .before .before .node-of .ensures) ∙ ap noded (told .answer2 .given .1)) (c .before .first-row .ensures)
 
 returns : tie.Need-returns
-unfolding generatorsOf nodeAnswer
+unfolding generatorsOf listedInto nodeAnswer
 returns c =
     let start = c .before .before .before .before .before in
     sym (word-refused (start .args .word) (nodeOf (start .args .word)) (unchanged (start .args .out .now)) _ _

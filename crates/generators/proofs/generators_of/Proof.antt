@@ -7,12 +7,12 @@ use native.Mathlib.Nat.{zero-add}
 use lib.ListN.{length, length-map}
 use borrow.Author.Needs.{needs}
 use Rattle.words.specs.Positions.{positions}
-use Rattle.words.specs.Answers.{given}
+use Rattle.words.specs.Answers.{given, ListAnswer}
 use Rattle.words.proofs.StandingBits.{positions-le}
-use Rattle.generators.specs.Generators.{minimalGenerators, ListAnswer}
+use Rattle.generators.specs.Generators.{minimalGenerators, generatorsOf}
 use Rattle.words.specs.Lists.{fronted}
 use Rattle.words.proofs.Lists.{fronted-length, fronted-twice}
-use Rattle.generators.proofs.MinimalGenerators.{no-room, room}
+use Rattle.words.proofs.Answers.{no-room, room}
 use Rattle.generators.proofs.LowGenerators.{conductor-small, generators-listed, generators-length}
 use Rattle.generators.proofs.generators_of.Statement.{statement}
 use Rattle.generators.proofs.generators_of.Tie as tie
@@ -41,11 +41,12 @@ add-count c =
     omega (arith, c .before .standing-bits .ensures, c .standing-bits2 .ensures, positions-le low, positions-le row)
 
 returns : tie.Need-returns
+unfolding generatorsOf
 returns c =
     let at-count = c .before in
     let start = at-count .before .before .before .before in
     let many = generators-length (start .fits .word .fits) (start .pre) _ (at-count .before .before .low-generators .ensures) in
-    sym (no-room (start .args .word) (start .args .out .now) (start .pre .accepted) (omega (arith, many, c .if1 .taken, at-count .before .standing-bits .ensures, at-count .standing-bits2 .ensures)))
+    sym (no-room (start .args .word) (minimalGenerators (start .args .word)) (start .args .out .now) (start .pre .accepted) (omega (arith, many, c .if1 .taken, at-count .before .standing-bits .ensures, at-count .standing-bits2 .ensures)))
 
 write-bits-requires-2 : tie.Need-write-bits-requires-2
 write-bits-requires-2 c κs =
@@ -64,6 +65,7 @@ same-length : tie.Need-same-length
 same-length c = search needs
 
 returns-2 : tie.Need-returns-2
+unfolding generatorsOf
 returns-2 c =
     let at-second = c .before .before in
     let at-first = at-second .before .before .before .before in
@@ -85,7 +87,7 @@ returns-2 c =
     (end ∙ ap (λ (n : ℕ). n + length (positions row)) (place ∙ zero-add (length (positions low))) ∙ sym many)
     (all ∙ fronted-twice l out k _ _ (place ∙ zero-add (length (positions low)) ∙ sym (length-map (positions low) (λ d. 1 + d))) list
     ∙ ap (λ (g : List ℕ). fronted g out) (sym (generators-listed (start .fits .word .fits) (start .pre) low found)))
-    ∙ sym (room w out (start .pre .accepted) enough)
+    ∙ sym (room w (minimalGenerators w) out (start .pre .accepted) enough)
 
 pub generators-of-spec : {M : Type 1} → statement M
 generators-of-spec =

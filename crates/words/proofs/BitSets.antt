@@ -1,28 +1,22 @@
--- Sets of 64 numbers as bits, and the members of a list as such a set. Assumes nothing.
+-- Sets of 64 numbers as bits. Assumes nothing.
 use Prim.Native.Nat.{ℕ, _+_, _*_, _-_, _%_, _^_, _≤_, _<_}
-use mathlib.Core.Path.{_≡_, refl, sym, ap, ap₂, subst, _∙_}
-use mathlib.Core.Logic.{_↔_}
-use mathlib.Core.Bool.{Bool, true, false, not, _||_, _&&_}
-use mathlib.Core.List.{List, map, List·Memᴰ, Memᴰ·cast, Memᴰ·map, Memᴰ·of-map}
+use mathlib.Core.Path.{_≡_, sym, ap, ap₂, subst, _∙_}
+use mathlib.Core.Bool.{Bool, false, not, _||_, _&&_}
+use mathlib.Core.List.{map, Memᴰ·cast, Memᴰ·map, Memᴰ·of-map}
 use native.Mathlib.Omega.{arith}
 use native.Mathlib.Nat.{mod-lt, le-dest}
-use native.Mathlib.Numerals.{add-one}
 use lib.Dec.{eqb, ltb}
 use lib.Bits.{bitAnd, bitOr, or-lt, and-lt}
 use lib.Pow.{pow-pos, pow-lt}
-use lib.ListN.{length, getD, take, length-map}
-use lib.Seq.{take-suc}
-use borrow.Author.Tests.{ltb-true, ltb-false, lt-ltb, le-ltb, eqb-true, eq-eqb, not-true, not-false}
-use Rattle.words.specs.Lists.{run, keep, every}
+use lib.ListN.{length-map}
+use borrow.Author.Tests.{ltb-true, ltb-false, lt-ltb, le-ltb, eqb-true, eq-eqb}
+use Rattle.words.specs.Lists.{run, keep}
 use Rattle.words.specs.Sets.{Set}
 use Rattle.words.specs.Words.{bit}
-use Rattle.words.specs.Positions.{positions}
-use Rattle.words.proofs.Booleans.{not-both, is-false, by-value, true-together}
-use Rattle.words.proofs.Lists.{run-mem, mem-run, keep-mem, mem-keep, ordered-run, ordered-keep, ordered-map, ordered-unique, every-mem, every-false, some-more, length-run, getD-map-run}
+use Rattle.words.specs.Positions.{positions, bitsFrom}
+use Rattle.words.proofs.Booleans.{by-value, true-together}
+use Rattle.words.proofs.Lists.{run-mem, mem-run, keep-mem, mem-keep, ordered-run, ordered-keep, ordered-map, ordered-unique, length-run, getD-map-run}
 use Rattle.words.proofs.Bits.{bit-and, bit-or, bit-not, bit-zero, bit-pow, bit-mod, bit-shl, bit-shl-low, bits-decide, bit-ofBits, ofBits-lt}
-use Rattle.generators.specs.BitSets.{memberOf, bitsFrom}
-
--- ---- 64 numbers as bits
 
 module _ (S : Set) (first : ℕ) where
   pub bits-from-bit : (j : ℕ) → j < 64 → bit (bitsFrom S first) j ≡ S (first + j)
@@ -109,20 +103,3 @@ bits-from-one first i h =
     (λ j l. bit-pow i j ∙ true-together (eqb j i) (eqb (first + i) (first + j))
     (λ e. let same = eqb-true j i e in eq-eqb (first + i) (first + j) (omega arith))
     (λ e. let same = eqb-true (first + i) (first + j) e in eq-eqb j i (omega arith)))
-
--- ---- the members of a list
-
--- the test of a member
-pub member-iff : (A : List ℕ) (x : ℕ) → (memberOf A x ≡ true) ↔ List·Memᴰ x A
-unfolding memberOf
-member-iff A x = (
-  λ e. let (a, m, f) = every-false (λ a. not (eqb a x)) A (not-true _ e) in Memᴰ·cast (sym (eqb-true a x (not-false _ f))) m,
-  λ m. ap not (is-false (every (λ a. not (eqb a x)) A) (λ e. not-both (eq-eqb x x refl) (not-true _ (every-mem (λ a. not (eqb a x)) A e m)))),
-)
-
--- the members before i + 1 are those before i and that at i
-pub member-more : (l : List ℕ) (i x : ℕ) → i < length l → memberOf (take (i + 1) l) x ≡ (memberOf (take i l) x || eqb (getD l i 0) x)
-unfolding memberOf
-member-more l i x h =
-    ap (λ (k : List ℕ). not (every (λ a. not (eqb a x)) k)) (ap (λ (j : ℕ). take j l) (add-one i) ∙ take-suc l i 0 h)
-    ∙ some-more (λ a. eqb a x) (take i l) (getD l i 0)

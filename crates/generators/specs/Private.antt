@@ -1,20 +1,16 @@
--- Sets of 64 numbers as bits, and what is known of a word before its generators are written: what the private functions of the crate
--- compute and require. Assumes nothing: these are definitions.
+-- What the private functions of the crate compute and require: the members of a list as a set, the generators below the conductor, and
+-- what is known of a word before its generators are written. Assumes nothing: these are definitions.
 use Prim.Native.Nat.{ℕ, _%_, _^_}
 use mathlib.Core.Path.{_≡_}
 use mathlib.Core.Bool.{not, _&&_}
-use mathlib.Core.List.{List, map}
+use mathlib.Core.List.{List}
 use lib.Dec.{eqb, ltb}
-use Rattle.words.specs.Lists.{run, every}
+use Rattle.words.specs.Lists.{every}
 use Rattle.words.specs.Sets.{Set}
-use Rattle.words.specs.Words.{ofBits, conductor}
+use Rattle.words.specs.Words.{conductor}
 use Rattle.words.specs.Elements.{multiplicity, generator}
 use Rattle.words.specs.Answers.{Accepted}
 use Rattle.tables.specs.Seeds.{seedTable}
-
--- the 64 numbers from `first` on as bits: bit i tells whether first + i is in S
-unfoldable pub bitsFrom : Set → ℕ → ℕ
-bitsFrom S first = ofBits (map S (run first 64))
 
 -- x is a member of A
 unfoldable pub memberOf : List ℕ → Set

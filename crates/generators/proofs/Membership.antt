@@ -1,0 +1,30 @@
+-- The members of a list as a set. Assumes nothing.
+use Prim.Native.Nat.{ℕ, _+_, _<_}
+use mathlib.Core.Path.{_≡_, refl, sym, ap, _∙_}
+use mathlib.Core.Logic.{_↔_}
+use mathlib.Core.Bool.{true, not, _||_}
+use mathlib.Core.List.{List, List·Memᴰ, Memᴰ·cast}
+use native.Mathlib.Numerals.{add-one}
+use lib.Dec.{eqb}
+use lib.ListN.{length, getD, take}
+use lib.Seq.{take-suc}
+use borrow.Author.Tests.{eqb-true, eq-eqb, not-true, not-false}
+use Rattle.words.specs.Lists.{every}
+use Rattle.words.proofs.Booleans.{not-both, is-false}
+use Rattle.words.proofs.Lists.{every-mem, every-false, some-more}
+use Rattle.generators.specs.Private.{memberOf}
+
+-- the test of a member
+pub member-iff : (A : List ℕ) (x : ℕ) → (memberOf A x ≡ true) ↔ List·Memᴰ x A
+unfolding memberOf
+member-iff A x = (
+  λ e. let (a, m, f) = every-false (λ a. not (eqb a x)) A (not-true _ e) in Memᴰ·cast (sym (eqb-true a x (not-false _ f))) m,
+  λ m. ap not (is-false (every (λ a. not (eqb a x)) A) (λ e. not-both (eq-eqb x x refl) (not-true _ (every-mem (λ a. not (eqb a x)) A e m)))),
+)
+
+-- the members before i + 1 are those before i and that at i
+pub member-more : (l : List ℕ) (i x : ℕ) → i < length l → memberOf (take (i + 1) l) x ≡ (memberOf (take i l) x || eqb (getD l i 0) x)
+unfolding memberOf
+member-more l i x h =
+    ap (λ (k : List ℕ). not (every (λ a. not (eqb a x)) k)) (ap (λ (j : ℕ). take j l) (add-one i) ∙ take-suc l i 0 h)
+    ∙ some-more (λ a. eqb a x) (take i l) (getD l i 0)
