@@ -3,17 +3,17 @@ use Prim.Native.Nat.{ℕ, _^_, _≤_, _<_}
 use mathlib.Core.Path.{_≡_, refl, sym, ap, ap₂, subst, _∙_, fun-ext}
 use mathlib.Core.Logic.{_≢_, _↔_}
 use mathlib.Core.Bool.{Bool, true, false}
-use mathlib.Core.List.{List, List·Memᴰ, Memᴰ·cast}
+use mathlib.Core.List.{List, List·Memᴰ}
 use native.Mathlib.Omega.{arith}
 use lib.Dec.{eqb, ltb}
 use lib.ListN.{length, take}
-use borrow.Author.Tests.{ltb-true, ltb-false, lt-ltb, leb-true, le-leb, eqb-true, eqb-false, eq-eqb, ne-eqb}
+use borrow.Author.Tests.{leb-true, le-leb, eqb-true, eqb-false, eq-eqb, ne-eqb}
 use Rattle.words.specs.Lists.{every}
 use Rattle.words.specs.Sets.{Set, sumOfTwo, ClosedUnderAddition, GapsOf, gapsTo}
 use Rattle.words.specs.Words.{setOf, gaps, genus, wordOf}
 use Rattle.words.specs.Answers.{refused, given, Accepted, filled}
 use Rattle.words.proofs.Booleans.{not-both, is-false}
-use Rattle.words.proofs.Lists.{every-mem, mem-every, every-false, fronted-front}
+use Rattle.words.proofs.Lists.{positive-iff, zero-iff, fronted-front}
 use Rattle.words.proofs.Words.{gaps-of, same-set, word-of-set}
 use Rattle.words.proofs.Closure.{closed-iff}
 use Rattle.words.proofs.Answers.{first-no, second-no, third-no, all-yes, list-given, room}
@@ -28,9 +28,6 @@ use Rattle.words.proofs.Elements.{generator-parts, generator-of}
 -- ---- the questions
 
 module _ (A : List ℕ) where
-  positive-iff : (every (ltb 0) A ≡ true) ↔ Positive A
-  positive-iff = (λ e a m. ltb-true 0 a (every-mem (ltb 0) A e m), λ h. mem-every (ltb 0) A (λ a m. lt-ltb 0 a (h a m)))
-
   spans-zero : spans A 0 ≡ true
   spans-zero = spans-iff A 0 .1 (sum-zero A)
 
@@ -56,27 +53,24 @@ module _ (A : List ℕ) where
   pub refused-zero : (wordFromOf A ≡ refused 7) ↔ List·Memᴰ 0 A
   unfolding wordFromOf
   refused-zero = (
-    λ e.
-        let (a, m, f) = every-false (ltb 0) A (first-no 7 8 9 (omega arith) (omega arith) word positives coprime (fewGaps A) e) in
-        let none : 0 ≡ a = omega (arith, ltb-false 0 a f) in
-        Memᴰ·cast none m,
-    λ m. rw (is-false (every (ltb 0) A) (λ e. omega (arith, positive-iff .0 e 0 m))),
+    λ e. zero-iff A .0 (first-no 7 8 9 (omega arith) (omega arith) word positives coprime (fewGaps A) e),
+    λ m. rw (zero-iff A .1 m),
   )
 
   -- else 8 where the greatest common divisor is not 1
   pub refused-divisor : (wordFromOf A ≡ refused 8) ↔ (Positive A × (gcdOf A ≢ 1))
   unfolding wordFromOf
   refused-divisor = (
-    λ e. let (p, q) = second-no 7 8 9 (omega arith) (omega arith) word positives coprime (fewGaps A) e in (positive-iff .0 p, eqb-false (gcdOf A) 1 q),
-    λ (h, n). rw (positive-iff .1 h, ne-eqb (gcdOf A) 1 n),
+    λ e. let (p, q) = second-no 7 8 9 (omega arith) (omega arith) word positives coprime (fewGaps A) e in (positive-iff A .0 p, eqb-false (gcdOf A) 1 q),
+    λ (h, n). rw (positive-iff A .1 h, ne-eqb (gcdOf A) 1 n),
   )
 
   -- else 9 where the sums leave more than 32 gaps
   pub refused-gaps : (wordFromOf A ≡ refused 9) ↔ (Positive A × (gcdOf A ≡ 1) × ¬ AtMostGaps 32 (spans A))
   unfolding wordFromOf
   refused-gaps = (
-    λ e. let (p, q, r) = third-no 7 8 9 (omega arith) (omega arith) word positives coprime (fewGaps A) e in (positive-iff .0 p, eqb-true (gcdOf A) 1 q, λ g. not-both (few-gaps-iff .1 g) r),
-    λ (h, g, n). rw (positive-iff .1 h, eq-eqb (gcdOf A) 1 g, is-false (fewGaps A) (λ e. n (few-gaps-iff .0 e))),
+    λ e. let (p, q, r) = third-no 7 8 9 (omega arith) (omega arith) word positives coprime (fewGaps A) e in (positive-iff A .0 p, eqb-true (gcdOf A) 1 q, λ g. not-both (few-gaps-iff .1 g) r),
+    λ (h, g, n). rw (positive-iff A .1 h, eq-eqb (gcdOf A) 1 g, is-false (fewGaps A) (λ e. n (few-gaps-iff .0 e))),
   )
 
   few-word : AtMostGaps 32 (spans A) → (wordOf (gapsTo (spans A) 64) < 2 ^ 64) × ((x : ℕ) → setOf (wordOf (gapsTo (spans A) 64)) x ≡ spans A x)
@@ -92,10 +86,10 @@ module _ (A : List ℕ) where
         let (p, q, r, v) = all-yes 7 8 9 (omega arith) (omega arith) word w positives coprime (fewGaps A) e in
         let few = few-gaps-iff .0 r in
         let (fits, same) = few-word few in
-        record { positive = positive-iff .0 p; coprime = eqb-true (gcdOf A) 1 q; few = few; fits = subst (λ (u : ℕ). u < 2 ^ 64) v fits; same = λ x. ap (λ (u : ℕ). setOf u x) (sym v) ∙ same x },
+        record { positive = positive-iff A .0 p; coprime = eqb-true (gcdOf A) 1 q; few = few; fits = subst (λ (u : ℕ). u < 2 ^ 64) v fits; same = λ x. ap (λ (u : ℕ). setOf u x) (sym v) ∙ same x },
     λ s.
         let (fits, same) = few-word (s .few) in
-        rw (positive-iff .1 (s .positive), eq-eqb (gcdOf A) 1 (s .coprime), few-gaps-iff .1 (s .few))
+        rw (positive-iff A .1 (s .positive), eq-eqb (gcdOf A) 1 (s .coprime), few-gaps-iff .1 (s .few))
         (ap given (same-set (wordOf (gapsTo (spans A) 64)) w fits (s .fits) (λ x. same x ∙ sym (s .same x)))),
   )
 

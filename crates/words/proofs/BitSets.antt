@@ -1,5 +1,5 @@
 -- Sets of 64 numbers as bits. Assumes nothing.
-use Prim.Native.Nat.{ℕ, _+_, _*_, _-_, _%_, _^_, _≤_, _<_}
+use Prim.Native.Nat.{ℕ, suc, _+_, _*_, _-_, _%_, _^_, _≤_, _<_}
 use mathlib.Core.Path.{_≡_, sym, ap, ap₂, subst, _∙_}
 use mathlib.Core.Bool.{Bool, false, not, _||_, _&&_}
 use mathlib.Core.List.{map, Memᴰ·cast, Memᴰ·map, Memᴰ·of-map}
@@ -9,14 +9,16 @@ use lib.Dec.{eqb, ltb}
 use lib.Bits.{bitAnd, bitOr, or-lt, and-lt}
 use lib.Pow.{pow-pos, pow-lt}
 use lib.ListN.{length-map}
-use borrow.Author.Tests.{ltb-true, ltb-false, lt-ltb, le-ltb, eqb-true, eq-eqb}
+use borrow.Author.Tests.{ltb-true, ltb-false, lt-ltb, le-ltb, eqb-true, eq-eqb, not-true, not-false}
 use Rattle.words.specs.Lists.{run, keep}
-use Rattle.words.specs.Sets.{Set}
-use Rattle.words.specs.Words.{bit}
+use Rattle.words.specs.Sets.{Set, gapsTo}
+use Rattle.words.specs.Words.{bit, setOf, wordOf}
 use Rattle.words.specs.Positions.{positions, bitsFrom}
 use Rattle.words.proofs.Booleans.{by-value, true-together}
 use Rattle.words.proofs.Lists.{run-mem, mem-run, keep-mem, mem-keep, ordered-run, ordered-keep, ordered-map, ordered-unique, length-run, getD-map-run}
 use Rattle.words.proofs.Bits.{bit-and, bit-or, bit-not, bit-zero, bit-pow, bit-mod, bit-shl, bit-shl-low, bits-decide, bit-ofBits, ofBits-lt}
+use Rattle.words.proofs.Sets.{gaps-to-mem, mem-gaps-to}
+use Rattle.words.proofs.Words.{gaps-to-list, word-gaps, word-lt}
 
 module _ (S : Set) (first : ℕ) where
   pub bits-from-bit : (j : ℕ) → j < 64 → bit (bitsFrom S first) j ≡ S (first + j)
@@ -103,3 +105,16 @@ bits-from-one first i h =
     (λ j l. bit-pow i j ∙ true-together (eqb j i) (eqb (first + i) (first + j))
     (λ e. let same = eqb-true j i e in eq-eqb (first + i) (first + j) (omega arith))
     (λ e. let same = eqb-true (first + i) (first + j) e in eq-eqb j i (omega arith)))
+
+-- the word of the gaps of S up to 64 has them as bits
+pub word-bits : (S : Set) → wordOf (gapsTo S 64) ≡ bitsFrom (λ x. not (S x)) 1
+unfolding setOf
+word-bits S =
+    let w : ℕ = wordOf (gapsTo S 64) in
+    let listed = gaps-to-list S 64 (omega arith) in
+    let g = word-gaps (gapsTo S 64) listed in
+    bits-from-is (λ x. not (S x)) 1 w (word-lt (gapsTo S 64) listed) (λ j h.
+    let next : suc j ≡ 1 + j = omega arith in
+    true-together (bit w j) (not (S (1 + j)))
+    (λ e. ap (λ (x : ℕ). not (S x)) (sym next) ∙ ap not (gaps-to-mem S 64 (g .all (suc j) (ap not e)) .2))
+    (λ e. not-false _ (g .missed (suc j) (mem-gaps-to S 64 (suc j) (omega arith) (omega arith) (ap S next ∙ not-true _ e)))))

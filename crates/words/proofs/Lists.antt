@@ -7,13 +7,13 @@ use mathlib.Core.List.{List, [], _∷_, _++_, append-assoc, map, map-append, Lis
 use native.Mathlib.Omega.{arith}
 use native.Mathlib.Nat.{add-zero, zero-add, suc-add, add-suc, eq-or-lt-of-le, le-of-eq, le-trans, le-of-lt, le-dest, pow-suc, suc-mul}
 use native.Mathlib.Numerals.{add-one}
-use lib.Dec.{eqb}
+use lib.Dec.{eqb, ltb}
 use lib.ListN.{length, getD, take, drop, set, replicate, length-append, length-take, length-drop, take-append-drop}
 use lib.Pow.{pow-mono}
 use lib.Seq.{take-append-seam, drop-append-seam, set-append-seam, drop-cons, drop-append-add, drop-drop, take-suc, sets}
-use borrow.Author.Tests.{eq-eqb, ne-eqb, eqb-true}
+use borrow.Author.Tests.{eq-eqb, ne-eqb, eqb-true, ltb-true, ltb-false, lt-ltb}
 use Rattle.words.specs.Lists.{run, keep, keepIf, every, joined, sumOver, lastOr, begins, fronted, onFrom, Ordered}
-use Rattle.words.proofs.Booleans.{not-both, by-value, not-and}
+use Rattle.words.proofs.Booleans.{not-both, is-false, by-value, not-and}
 
 -- ---- run
 
@@ -450,6 +450,32 @@ pub every-from : (p : ℕ → Bool) (l : List ℕ) (i : ℕ) → i < length l �
 unfolding every
 every-from p l i h = ap (every p) (drop-cons l i 0 h) ∙ ap (λ (j : ℕ). p (getD l i 0) && every p (drop j l)) (sym (add-one i))
 
+-- the same of a sum
+pub sum-from : (f : ℕ → ℕ) (l : List ℕ) (i : ℕ) → i < length l → sumOver f (drop i l) ≡ f (getD l i 0) + sumOver f (drop (i + 1) l)
+unfolding sumOver
+sum-from f l i h = ap (sumOver f) (drop-cons l i 0 h) ∙ ap (λ (j : ℕ). f (getD l i 0) + sumOver f (drop j l)) (sym (add-one i))
+
+-- are all positive: the test decides, and where it fails 0 is among them
+pub positive-iff : (l : List ℕ) → (every (ltb 0) l ≡ true) ↔ ((x : ℕ) → List·Memᴰ x l → 0 < x)
+positive-iff l = (λ e x m. ltb-true 0 x (every-mem (ltb 0) l e m), λ h. mem-every (ltb 0) l (λ x m. lt-ltb 0 x (h x m)))
+
+pub zero-iff : (l : List ℕ) → (every (ltb 0) l ≡ false) ↔ List·Memᴰ 0 l
+zero-iff l = (
+  λ e.
+      let (x, m, f) = every-false (ltb 0) l e in
+      let none : 0 ≡ x = omega (arith, ltb-false 0 x f) in
+      Memᴰ·cast none m,
+  λ m. is-false (every (ltb 0) l) (λ e. omega (arith, positive-iff l .0 e 0 m)),
+)
+
+-- so that their sum is at least their number
+pub length-le-sum : (l : List ℕ) → every (ltb 0) l ≡ true → length l ≤ sumOver (λ x. x) l
+unfolding every sumOver
+length-le-sum [] e = omega arith
+length-le-sum (x ∷ l) e =
+    let (pos, rest) = and-eq-true-iff (ltb 0 x) (every (ltb 0) l) .0 e in
+    omega (arith, ltb-true 0 x pos, length-le-sum l rest)
+
 -- ---- a list that begins with another
 
 pub begins-append : (k l : List ℕ) → begins k (k ++ l) ≡ true
@@ -602,6 +628,14 @@ module _ (l out : List ℕ) where
   pub fronted-twice : (k next : List ℕ) (at : ℕ) → at ≡ length l → next ≡ fronted l out → fronted (take at next ++ k) next ≡ fronted (l ++ k) out
   fronted-twice k next at p q =
       ap₂ (λ (n : ℕ) (o : List ℕ). fronted (take n o ++ k) o) p q ∙ ap (λ (m : List ℕ). fronted (m ++ k) (fronted l out)) fronted-front ∙ fronted-on k
+
+-- a list written place by place
+pub fronted-next : (l out : List ℕ) (k : ℕ) → k < length l → length l ≤ length out
+    → set (fronted (take k l) out) k (getD l k 0) ≡ fronted (take (k + 1) l) out
+fronted-next l out k h room =
+    let here : length (take k l) ≡ k = length-take k l ∙ omega arith in
+    ap (λ (i : ℕ). set (fronted (take k l) out) i (getD l k 0)) (sym here) ∙ fronted-set (take k l) out (getD l k 0) (omega arith)
+    ∙ ap (λ (t : List ℕ). fronted t out) (sym (take-suc l k 0 h) ∙ ap (λ (i : ℕ). take i l) (sym (add-one k)))
 
 -- the front of the list itself
 pub fronted-self : (out : List ℕ) (n : ℕ) → n ≤ length out → fronted (take n out) out ≡ out

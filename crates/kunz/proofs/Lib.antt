@@ -1,0 +1,7 @@
+pub mod Residues
+pub mod WordCoordinates
+pub mod Said
+pub mod RoundTrips
+pub mod MultiplesFound
+pub mod ResidueBits
+pub mod Cases
