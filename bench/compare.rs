@@ -55,6 +55,8 @@ extern "C" {
     fn atlas_generators(word: u64, out: *mut u8, length: usize) -> Number;
     fn atlas_word_from(list: *const u8, length: usize) -> Number;
     fn atlas_elementary(frobenius: u64, genus: u64) -> Number;
+    fn atlas_kunz(word: u64, out: *mut u8, length: usize) -> Number;
+    fn atlas_word_from_kunz(list: *const u8, length: usize) -> Number;
 }
 
 // ---- the plain definitions
@@ -173,6 +175,39 @@ fn word_from(list: &[u8]) -> Number {
         }
     }
     given(word_of(&missed))
+}
+
+/// For i from 1 to m - 1 the number x with m x + i the least element that leaves i on division by m.
+fn coordinates(word: u64) -> Vec<u8> {
+    let m = multiplicity(word);
+    (1..m).map(|i| (0..).find(|x| holds(word, m * x + i)).unwrap() as u8).collect()
+}
+
+/// The inequality of the places i and j of a list of coordinates.
+fn inequality(list: &[u8], i: usize, j: usize) -> bool {
+    let m = list.len() + 1;
+    let x = |place: usize| list[place - 1] as u64;
+    if i + j < m {
+        x(i) + x(j) >= x(i + j)
+    } else {
+        i + j == m || x(i) + x(j) + 1 >= x(i + j - m)
+    }
+}
+
+/// The word whose gaps are m t + i for t below the entry at i.
+fn word_from_coordinates(list: &[u8]) -> Number {
+    let m = list.len() + 1;
+    if list.contains(&0) {
+        return refused(11);
+    }
+    if list.iter().map(|&x| x as u64).sum::<u64>() > 32 {
+        return refused(12);
+    }
+    if (1..m).any(|i| (1..m).any(|j| !inequality(list, i, j))) {
+        return refused(13);
+    }
+    let gaps: Vec<u64> = (1..m).flat_map(|i| (0..list[i - 1] as usize).map(move |t| (m * t + i) as u64)).collect();
+    given(word_of(&gaps))
 }
 
 fn begins(word: u64, other: u64) -> bool {
@@ -492,19 +527,26 @@ fn counts(n: u64, words: &Words, r: &mut Random) -> Kind {
     kind
 }
 
-fn generators(n: u64, words: &Words, r: &mut Random) -> Kind {
-    let mut kind = Kind::new("generators");
+/// A call that lists bytes of a word into a lent list, against what is to be listed: questions 1, 2 and 6.
+fn listed(
+    mut kind: Kind,
+    call: unsafe extern "C" fn(u64, *mut u8, usize) -> Number,
+    all: fn(u64) -> Vec<u8>,
+    n: u64,
+    words: &Words,
+    r: &mut Random,
+) -> Kind {
     for _ in 0..n {
         let w = words.any(r);
         let length = r.below(40) as usize;
         let lent: Vec<u8> = (0..length).map(|_| r.next() as u8).collect();
         let mut ours = lent.clone();
-        let answer = unsafe { atlas_generators(w, ours.as_mut_ptr(), length) };
+        let answer = unsafe { call(w, ours.as_mut_ptr(), length) };
         let mut list = lent.clone();
         let plain = match word_refused(w) {
             Some(q) => refused(q),
             None => {
-                let all = minimal_generators(w);
+                let all = all(w);
                 if all.len() > length {
                     refused(6)
                 } else {
@@ -515,6 +557,51 @@ fn generators(n: u64, words: &Words, r: &mut Random) -> Kind {
         };
         kind.same((answer, ours), (plain, list), &|| format!("{w} {length}"));
     }
+    kind
+}
+
+/// A list of coordinates: valid, with an entry changed, cut or longer, of few random entries, or all the same byte.
+fn random_coordinates(words: &Words, r: &mut Random) -> Vec<u8> {
+    let mut list = coordinates(words.valid(r));
+    match r.below(8) {
+        0 => {}
+        1..=3 => {
+            if !list.is_empty() {
+                let i = r.below(list.len() as u64) as usize;
+                list[i] = [list[i] + 1, list[i] - 1, 0, r.next() as u8][r.below(4) as usize];
+            }
+        }
+        4 => list.truncate(r.below(33) as usize),
+        5 => list.push(1 + r.below(4) as u8),
+        6 => list = (0..r.below(7)).map(|_| r.below(9) as u8).collect(),
+        _ => {
+            let length = [0, 1, 31, 32, 33, 1000][r.below(6) as usize];
+            list = vec![[0, 1, 255][r.below(3) as usize]; length];
+            if length > 0 && r.below(2) == 0 {
+                let i = r.below(length as u64) as usize;
+                list[i] = r.below(3) as u8;
+            }
+        }
+    }
+    list
+}
+
+/// Words from lists of coordinates; what is accepted comes back as the list, and refusals of each number are met.
+fn words_from_coordinates(n: u64, words: &Words, r: &mut Random) -> Kind {
+    let mut kind = Kind::new("word from coordinates");
+    let mut met = [0u64; 14];
+    for _ in 0..n {
+        let list = random_coordinates(words, r);
+        let answer = unsafe { atlas_word_from_kunz(list.as_ptr(), list.len()) };
+        met[answer.refused as usize] += 1;
+        kind.same(answer, word_from_coordinates(&list), &|| format!("{list:?}"));
+        if answer.refused == 0 {
+            let mut back = [0; 32];
+            let number = unsafe { atlas_kunz(answer.value, back.as_mut_ptr(), back.len()) };
+            kind.same((number, &back[..list.len()]), (given(list.len() as u64), &list[..]), &|| format!("{list:?} and back"));
+        }
+    }
+    assert!([0, 11, 12, 13].iter().all(|&q| met[q] > n / 100), "each answer is met: {met:?}");
     kind
 }
 
@@ -599,9 +686,11 @@ fn main() {
         starts(60_000, &words, &mut r),
         batches(100_000, &words, &mut r),
         counts(10_000, &words, &mut r),
-        generators(100_000, &words, &mut r),
+        listed(Kind::new("generators"), atlas_generators, minimal_generators, 100_000, &words, &mut r),
         words_from(150_000, &words, &mut r),
         elementaries(50_000, &words, &mut r),
+        listed(Kind::new("coordinates"), atlas_kunz, coordinates, 150_000, &words, &mut r),
+        words_from_coordinates(200_000, &words, &mut r),
     ];
     println!("seed {seed}");
     for kind in &kinds {

@@ -1,5 +1,6 @@
 /* Speed of the atlas as ratios: the count and the whole walk of a genus by batches of 4,096 words, ours against the paper's recursive
-   algorithm in C and against plain Rust, the same work on the same machine in one run. Each time is the least of several runs. */
+   algorithm in C and against plain Rust, the same work on the same machine in one run; then calls on every word of a genus against the
+   walk of it. Each time is the least of several runs. */
 #include <inttypes.h>
 #include <stdio.h>
 #include <stdlib.h>
@@ -44,6 +45,42 @@ static uint64_t our_walk(unsigned genus, uint64_t *out, size_t length, uint64_t 
   return total;
 }
 
+/* The walk of a genus with calls on each word of it. */
+typedef uint64_t call(uint64_t word);
+
+static uint64_t looked(uint64_t word) { return atlas_look(word).conductor; }
+
+static uint64_t coordinates(uint64_t word) {
+  uint8_t list[ATLAS_MOST_COORDINATES];
+  return atlas_kunz(word, list, sizeof list).value;
+}
+
+/* The coordinates of a word, and the word again. */
+static uint64_t coordinates_back(uint64_t word) {
+  uint8_t list[ATLAS_MOST_COORDINATES];
+  uint64_t count = atlas_kunz(word, list, sizeof list).value;
+  if (atlas_word_from_kunz(list, count).value != word) exit(1);
+  return count;
+}
+
+static uint64_t called(unsigned genus, uint64_t *out, size_t length, uint64_t *mixed, call *f) {
+  uint64_t total = 0, mix = 0;
+  atlas_walk walk = atlas_fresh(genus).walk;
+  atlas_moved moved;
+  do {
+    moved = atlas_batch(walk, out, length);
+    for (size_t i = 0; i < moved.count; i++) mix += f(out[i]);
+    total += moved.count;
+    walk = moved.walk;
+  } while (!moved.refused && !moved.finished);
+  *mixed = mix;
+  return total;
+}
+
+static uint64_t walk_looked(unsigned g, uint64_t *out, size_t n, uint64_t *mixed) { return called(g, out, n, mixed, looked); }
+static uint64_t walk_coordinates(unsigned g, uint64_t *out, size_t n, uint64_t *mixed) { return called(g, out, n, mixed, coordinates); }
+static uint64_t walk_back(unsigned g, uint64_t *out, size_t n, uint64_t *mixed) { return called(g, out, n, mixed, coordinates_back); }
+
 static double now(void) {
   struct timespec t;
   clock_gettime(CLOCK_MONOTONIC, &t);
@@ -75,6 +112,13 @@ static void row(const char *name, unsigned genus, work *ours, work *paper, work 
   printf("%-7u %-6s %12" PRIu64 " %10.2f %10.2f %10.2f %9.2f %9.2f\n", genus, name, a, o * 1e3, p * 1e3, r * 1e3, o / p, o / r);
 }
 
+/* A call on every word of a genus, without the walk itself, as a ratio to the walk. */
+static void call_row(const char *name, unsigned genus, work *with_call, double walk) {
+  uint64_t total, mixed;
+  double taken = time_of(with_call, genus, LENGTH, &total, &mixed) - walk;
+  printf("%s of every word of genus %u: %.1f times the walk, %.0f ns each\n", name, genus, taken / walk, taken / (double)total * 1e9);
+}
+
 int main(void) {
   static const unsigned genera[] = {24, 28, 32};
   printf("%-7s %-6s %12s %10s %10s %10s %9s %9s\n", "genus", "work", "semigroups", "ours ms", "paper ms", "Rust ms", "to paper", "to Rust");
@@ -83,6 +127,10 @@ int main(void) {
     row("walk", genera[i], our_walk, paper_walk, plain_walk);
   }
   uint64_t total, mixed;
+  double walk = time_of(our_walk, 24, LENGTH, &total, &mixed);
+  call_row("a look", 24, walk_looked, walk);
+  call_row("coordinates", 24, walk_coordinates, walk);
+  call_row("coordinates and back", 24, walk_back, walk);
   double single = time_of(our_walk, 20, 1, &total, &mixed);
   printf("a batch of length 1 at genus 20: %.0f ns\n", single / (double)total * 1e9);
   return 0;

@@ -113,6 +113,27 @@ static void generators(void) {
   CHECK(number_is(atlas_word_from((uint8_t[]){2, 67}, 2), 9, 0));
 }
 
+static void coordinates(void) {
+  uint8_t out[4] = {9, 9, 9, 9};
+  CHECK(number_is(atlas_kunz(too_many, out, 4), 1, 0));
+  CHECK(number_is(atlas_kunz(not_closed, out, 4), 2, 0));
+  CHECK(number_is(atlas_kunz(91, out, 1), 6, 0));
+  CHECK(number_is(atlas_kunz(0, out, 0), 0, 0));
+  CHECK(memcmp(out, (uint8_t[]){9, 9, 9, 9}, sizeof out) == 0);
+  CHECK(number_is(atlas_kunz(91, out, 4), 0, 2));
+  CHECK(memcmp(out, (uint8_t[]){3, 2, 9, 9}, sizeof out) == 0);
+  uint8_t all[ATLAS_MOST_COORDINATES];
+  CHECK(number_is(atlas_kunz(4294967295, all, sizeof all), 0, 32));
+  CHECK(number_is(atlas_word_from_kunz(all, sizeof all), 0, 4294967295));
+  CHECK(number_is(atlas_word_from_kunz(out, 0), 0, 0));
+  CHECK(number_is(atlas_word_from_kunz(out, 2), 0, 91));
+  CHECK(number_is(atlas_word_from_kunz((uint8_t[]){2, 1}, 2), 0, 11));
+  CHECK(number_is(atlas_word_from_kunz((uint8_t[]){32}, 1), 0, of_genus_32));
+  CHECK(number_is(atlas_word_from_kunz((uint8_t[]){255, 0}, 2), 11, 0));
+  CHECK(number_is(atlas_word_from_kunz((uint8_t[]){33}, 1), 12, 0));
+  CHECK(number_is(atlas_word_from_kunz((uint8_t[]){1, 3}, 2), 13, 0));
+}
+
 int main(void) {
   words();
   tables();
@@ -120,6 +141,7 @@ int main(void) {
   batches();
   counts();
   generators();
+  coordinates();
   printf("calls: %u checks, %u failed\n", checks, failures);
   return failures != 0;
 }

@@ -11,7 +11,8 @@
    Refusals: 1 more than 32 gaps; 2 not closed under addition; 3 genus (of a child: one more than the word's) above 32; 4 a walk that is
    neither finished with word 0 nor unfinished on an accepted word of its genus; 5 no generator, or below the conductor; 6 the lent list is
    too short; 7 a given generator is 0; 8 the greatest common divisor of the given generators is not 1 (an empty list's is 0); 9 the given
-   generators leave more than 32 gaps.
+   generators leave more than 32 gaps; 11 a given coordinate is 0; 12 the given coordinates add up to more than 32; 13 an inequality of the
+   given coordinates fails. (10 is the listing program's.)
 
    Link with target/staticlib/libatlas.a, which `rt staticlib atlas` writes. */
 #ifndef ATLAS_H
@@ -92,6 +93,18 @@ atlas_number atlas_generators(uint64_t word, uint8_t *out, size_t length);
 
 /* The word of all sums of the given generators; repeats and any order are allowed. Refusals 7, 8, 9. */
 atlas_number atlas_word_from(const uint8_t *list, size_t length);
+
+/* The Kunz coordinates of an accepted word are one less than its multiplicity: a list of 32 places always holds them. */
+#define ATLAS_MOST_COORDINATES 32
+
+/* Writes the Kunz coordinates of a word to the front of `out` and gives their number m - 1, with m the multiplicity: for i from 1 to m - 1
+   the number x with m x + i the least element that leaves i on division by m. Refusals 1, 2, 6. */
+atlas_number atlas_kunz(uint64_t word, uint8_t *out, size_t length);
+
+/* The word of a list of m - 1 Kunz coordinates, x1 first; the empty list is that of the word 0. Accepted when every entry is at least 1,
+   their sum is at most 32, and for all places i and j, equal ones too: xi + xj is at least x(i+j) where i + j is below m, and xi + xj + 1
+   is at least x(i+j-m) where i + j is above m. Refusals 11, 12, 13. */
+atlas_number atlas_word_from_kunz(const uint8_t *list, size_t length);
 
 /* The number of semigroups of a genus whose largest gap is `frobenius`, below twice the multiplicity. Refusal 3. */
 atlas_number atlas_elementary(uint64_t frobenius, uint64_t genus);

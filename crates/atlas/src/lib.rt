@@ -7,6 +7,7 @@ ghost use Rattle.walk.specs.Answers.{begun, reported};
 ghost use Rattle.walk.specs.Walks.{freshOf, startOf, batchOf, countOf};
 ghost use Rattle.generators.specs.Generators.{generatorsOf, wordFromOf};
 ghost use Rattle.elementary.specs.Answers.{elementaryOf};
+ghost use Rattle.kunz.specs.Coordinates.{coordinatesOf, wordFromCoordinatesOf};
 ghost use Rattle.atlas.specs.Interface.{numberIn, reportIn, begunIn, walkFrom, movedIn};
 use walk::BatchAnswer;
 use walk::Walk;
@@ -221,4 +222,20 @@ pub extern "C" fn atlas_word_from(list: &[u8]) -> AtlasNumber
     ensures { λ r. ⌜ r ≡ numberIn (wordFromOf (now (list .entry))) ⌝ }
 {
     number_of(generators::word_from(list))
+}
+
+// The Kunz coordinates of a word into a lent list, and their number, one less than the multiplicity. Questions 1, 2, 6.
+#[no_mangle]
+pub extern "C" fn atlas_kunz(word: u64, out: &mut [u8]) -> AtlasNumber
+    ensures { λ r. ⌜ (r ≡ numberIn (coordinatesOf word (now (out .entry)) .answer)) × (now (out .exit) ≡ coordinatesOf word (now (out .entry)) .list) ⌝ }
+{
+    number_of(kunz::coordinates(word, out))
+}
+
+// The word of a list of Kunz coordinates. Questions 11, 12, 13.
+#[no_mangle]
+pub extern "C" fn atlas_word_from_kunz(list: &[u8]) -> AtlasNumber
+    ensures { λ r. ⌜ r ≡ numberIn (wordFromCoordinatesOf (now (list .entry))) ⌝ }
+{
+    number_of(kunz::word_from_coordinates(list))
 }

@@ -1,5 +1,5 @@
-// Runs further cases of the papers on what comes after the walk: generators both ways, elementary counts and the requests of the listing
-// program. What it prints is held to the stored file, which was computed apart from the plain definitions.
+// Runs further cases of the papers on what comes after the walk: generators both ways, elementary counts, Kunz coordinates both ways and
+// the requests of the listing program. What it prints is held to the stored file, which was computed apart from the plain definitions.
 use libc::STDOUT_FILENO;
 use words::NumberAnswer;
 use words::Refusal;
@@ -67,6 +67,26 @@ fn show_elementary(frobenius: u64, genus: u64) {
     answer(elementary::elementary(frobenius, genus));
 }
 
+fn show_coordinates(word: u64) {
+    text(b"coordinates of");
+    field(word);
+    let mut list = [0u8; 32];
+    let a = kunz::coordinates(word, &mut list);
+    if let NumberAnswer::Given(n) = a {
+        if n <= 32 {
+            text(b" are");
+            bytes(&list[..n as usize]);
+        }
+    }
+    answer(a);
+}
+
+fn show_word_from_coordinates(list: &[u8]) {
+    text(b"word from coordinates");
+    bytes(list);
+    answer(kunz::word_from_coordinates(list));
+}
+
 fn show_request(input: &[u8]) {
     text(b"request");
     bytes(input);
@@ -109,6 +129,42 @@ fn elementary_counts() {
     show_elementary(7, 33);
 }
 
+fn coordinates_out() {
+    show_coordinates(0);
+    show_coordinates(1);
+    show_coordinates(91);
+    show_coordinates(111);
+    show_coordinates(427392895);
+    show_coordinates(4294967295);
+    show_coordinates(6148914691236517205);
+    show_coordinates(13);
+    show_coordinates(8589934591);
+}
+
+fn coordinates_back() {
+    show_word_from_coordinates(b"");
+    show_word_from_coordinates(&[1]);
+    show_word_from_coordinates(&[2, 1]);
+    show_word_from_coordinates(&[3, 2]);
+    show_word_from_coordinates(&[3, 1]);
+    show_word_from_coordinates(&[32]);
+    show_word_from_coordinates(&[11, 21]);
+    show_word_from_coordinates(&[1u8; 32]);
+}
+
+fn refused_coordinates() {
+    show_word_from_coordinates(&[0]);
+    show_word_from_coordinates(&[255, 0]);
+    show_word_from_coordinates(&[33]);
+    show_word_from_coordinates(&[1u8; 33]);
+    show_word_from_coordinates(&[1, 255]);
+    show_word_from_coordinates(&[1, 3]);
+    show_word_from_coordinates(&[4, 1]);
+    show_word_from_coordinates(&[1, 31]);
+    show_word_from_coordinates(&[16, 1, 14]);
+    show_word_from_coordinates(&[17, 1, 14]);
+}
+
 fn requests() {
     show_request(b"3\n");
     show_request(b"03\n");
@@ -133,6 +189,9 @@ fn main() {
     words_back();
     refused_generators();
     elementary_counts();
+    coordinates_out();
+    coordinates_back();
+    refused_coordinates();
     requests();
     malformed_requests();
 }

@@ -5,7 +5,7 @@ use mathlib.Core.Logic.{_≢_}
 use mathlib.Core.Bool.{true}
 use mathlib.Core.List.{List, _++_, map, List·Memᴰ, Memᴰ·cast, Memᴰ·of-map}
 use native.Mathlib.Omega.{arith}
-use native.Mathlib.Nat.{le-refl, le-dest, zero-mul, suc-mul, add-mul, div-add-mod', mod-lt, lt-of-mul-lt-mul-right, dvd-add-iff-right, eq-one-of-dvd-one}
+use native.Mathlib.Nat.{le-refl, le-dest, suc-mul, add-mul, div-add-mod', mod-lt, lt-of-mul-lt-mul-right, dvd-add-iff-right, eq-one-of-dvd-one, mul-comm}
 use lib.ListN.{length, length-map}
 use Rattle.words.specs.Lists.{run, keep, Ordered}
 use Rattle.words.specs.Sets.{sumOfTwo}
@@ -13,7 +13,7 @@ use Rattle.words.specs.Words.{setOf, genus, conductor, closed}
 use Rattle.words.specs.Elements.{multiplicity, generator, rightGenerators}
 use Rattle.words.proofs.Booleans.{not-both, by-value, true-together}
 use Rattle.words.proofs.Lists.{mem-run, run-below, keep-mem, mem-keep, keep-append, ordered-run, ordered-keep, ordered-map}
-use Rattle.words.proofs.Sets.{sum-of, sum-found}
+use Rattle.words.proofs.Sets.{sum-of, sum-found, multiples-in}
 use Rattle.words.proofs.Counting.{count-not, length-le-count}
 use Rattle.words.proofs.Elements.{multiplicity-in, multiplicity-pos, multiplicity-le-genus, multiplicity-le-conductor, element-from-conductor, generator-parts, generator-of, generator-below}
 use Rattle.words.proofs.Closure.{closed-iff, conductor-le-64}
@@ -60,8 +60,7 @@ module _ (w : ℕ) (fits : w < 2 ^ 64) where
     -- the multiples of the multiplicity are elements
     multiple-in : (k : ℕ) → setOf w (k * m) ≡ true
     unfolding setOf
-    multiple-in zero = ap (setOf w) (zero-mul m)
-    multiple-in (suc k) = ap (setOf w) (suc-mul k m) ∙ closed-iff w fits .0 c (k * m) m (multiple-in k) (multiplicity-in w fits)
+    multiple-in k = ap (setOf w) (mul-comm k m) ∙ multiples-in (setOf w) refl (closed-iff w fits .0 c) m (multiplicity-in w fits) k
 
     -- of two numbers that leave the same remainder on division by the multiplicity, the larger is no generator where the smaller is
     remainders-differ : {x y : ℕ} → x < y → generator w x ≡ true → generator w y ≡ true → x % m ≢ y % m

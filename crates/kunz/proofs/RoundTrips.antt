@@ -1,22 +1,22 @@
 -- The word of given coordinates: which lists are refused, and that coordinates and words give back one another. Assumes nothing.
-use Prim.Native.Nat.{ℕ, suc, _*_, _-_, _^_, _≤_, _<_}
+use Prim.Native.Nat.{ℕ, suc, _*_, _^_, _≤_, _<_}
 use mathlib.Core.Path.{_≡_, sym, ap, ap₂, subst, _∙_, fun-ext}
 use mathlib.Core.Logic.{_↔_}
 use mathlib.Core.Bool.{Bool, true, false, not, _&&_, and-eq-true-iff}
-use mathlib.Core.List.{List, List·Memᴰ, Memᴰ·of-map}
+use mathlib.Core.List.{List, List·Memᴰ}
 use native.Mathlib.Omega.{arith}
 use native.Mathlib.Nat.{le-refl, le-antisymm, le-of-suc-le-suc, lt-of-not-le}
 use lib.Dec.{eqb, ltb, leb}
-use lib.ListN.{length, take, length-map}
+use lib.ListN.{length, take}
 use lib.Seq.{ext-getD}
 use borrow.Author.Tests.{leb-true, leb-false, le-leb, lt-leb, eqb-true, eq-eqb}
-use Rattle.words.specs.Lists.{run, every, sumOver}
+use Rattle.words.specs.Lists.{every, sumOver}
 use Rattle.words.specs.Sets.{Set, gapsTo, ClosedUnderAddition, NumericalSemigroup, HasGenus}
 use Rattle.words.specs.Words.{setOf, wordOf, genus, closed}
 use Rattle.words.specs.Elements.{multiplicity}
 use Rattle.words.specs.Answers.{refused, given, Accepted, filled}
 use Rattle.words.proofs.Booleans.{not-both, is-true, is-false, true-together}
-use Rattle.words.proofs.Lists.{run-mem, length-run, positive-iff, zero-iff, fronted-front}
+use Rattle.words.proofs.Lists.{positive-iff, zero-iff, fronted-front}
 use Rattle.words.proofs.Sets.{genus-unique, gaps-to-all}
 use Rattle.words.proofs.Words.{word-of-set, word-genus, gaps-to-list, gaps-of-word, same-set}
 use Rattle.words.proofs.Counting.{countBelow, gaps-to-count, gap-bound, count-out, count-up, count-lt}
@@ -24,7 +24,7 @@ use Rattle.words.proofs.Closure.{closed-iff}
 use Rattle.words.proofs.Elements.{multiplicity-in, multiplicity-pos, multiplicity-least, multiplicity-le-genus}
 use Rattle.words.proofs.Answers.{first-no, second-no, third-no, all-yes, list-given, room}
 use Rattle.kunz.specs.Coordinates.{coordinate, kunzCoordinates, modulus, entryAt, inequalities, InequalitiesHold, setSaid, AcceptedCoordinates, coordinatesOf, wordFromCoordinatesOf}
-use Rattle.kunz.proofs.WordCoordinates.{coordinate-is, coordinate-positive}
+use Rattle.kunz.proofs.WordCoordinates.{coordinate-is, coordinates-number, coordinates-positive}
 use Rattle.kunz.proofs.Said.{said-zero, said-modulus, said-below, said-coordinate, inequalities-iff, said-closed-iff, said-count, said-gap-below, entry-coordinates, said-coordinates}
 
 -- ---- the set that a list says
@@ -184,20 +184,7 @@ module _ (l : List ℕ) where
 
 -- ---- the coordinates of a word
 
--- there are m - 1 coordinates
-pub coordinates-number : (w : ℕ) → length (kunzCoordinates w) ≡ multiplicity w - 1
-unfolding kunzCoordinates
-coordinates-number w = length-map (run 1 (multiplicity w - 1)) (coordinate w) ∙ length-run 1 (multiplicity w - 1)
-
 module _ (w : ℕ) (fits : w < 2 ^ 64) where
-  -- each is at least 1
-  pub coordinates-positive : (x : ℕ) → List·Memᴰ x (kunzCoordinates w) → 1 ≤ x
-  unfolding kunzCoordinates
-  coordinates-positive x m =
-      let (i, r, e) = Memᴰ·of-map (coordinate w) (run 1 (multiplicity w - 1)) m in
-      let (low, high) = run-mem 1 (multiplicity w - 1) r in
-      omega (arith, coordinate-positive w fits i low (omega arith))
-
   -- those of a closed word add up to its genus
   pub coordinates-sum : closed w ≡ true → sumOver (λ x. x) (kunzCoordinates w) ≡ genus w
   coordinates-sum c = sym (genus-said (kunzCoordinates w) w fits (λ x. sym (said-coordinates w fits c x)))
@@ -214,7 +201,7 @@ module _ (w : ℕ) (fits : w < 2 ^ 64) where
         let same : (x : ℕ) → setOf w x ≡ setSaid l x = λ x. sym (said-coordinates w fits (h .closed) x) in
         given-coordinates-iff l w .1 (
           record {
-            positive = coordinates-positive;
+            positive = coordinates-positive w fits;
             few = omega (arith, coordinates-sum (h .closed), h .few);
             sums = closed-said l w fits same .0 (h .closed);
           },

@@ -9,18 +9,18 @@ use native.Mathlib.Omega.{arith}
 use native.Mathlib.Nat.{zero-add, add-zero, le-refl, mul-add, mul-suc, mul-zero, mul-one, mul-le-mul-left, div-add-mod, mod-lt}
 use native.Mathlib.Decide.{decLt}
 use lib.Dec.{ltb, leb}
-use lib.ListN.{length, getD, length-map}
+use lib.ListN.{length, getD}
 use borrow.Author.Tests.{lt-ltb, le-ltb, ltb-true, le-leb, lt-leb, leb-true, leb-false}
 use Rattle.words.specs.Lists.{run, every, sumOver}
 use Rattle.words.specs.Sets.{ClosedUnderAddition}
 use Rattle.words.specs.Words.{setOf, closed}
 use Rattle.words.specs.Elements.{multiplicity}
-use Rattle.words.proofs.Lists.{run-mem, mem-run, length-run, getD-map-run, every-mem, mem-every, sum-same, sum-places}
+use Rattle.words.proofs.Lists.{run-mem, mem-run, getD-map-run, every-mem, mem-every, sum-same, sum-places}
 use Rattle.words.proofs.Counting.{countBelow, count-same}
 use Rattle.words.proofs.Elements.{multiplicity-pos}
 use Rattle.kunz.specs.Coordinates.{CoordinateOf, coordinate, kunzCoordinates, modulus, entryAt, inequality, inequalities, InequalitiesHold, setSaid}
 use Rattle.kunz.proofs.Residues.{residue-div, residue-mod, count-residues, count-threshold}
-use Rattle.kunz.proofs.WordCoordinates.{coordinate-zero, element-from-coordinate}
+use Rattle.kunz.proofs.WordCoordinates.{coordinates-number, coordinate-zero, element-from-coordinate}
 
 -- an entry is at most the sum of all
 entry-le-sum : (l : List ℕ) (k : ℕ) → getD l k 0 ≤ sumOver (λ x. x) l
@@ -201,14 +201,7 @@ module _ (w : ℕ) (fits : w < 2 ^ 64) where
 
   -- its m is the multiplicity
   pub modulus-coordinates : modulus (kunzCoordinates w) ≡ multiplicity w
-  unfolding kunzCoordinates
-  modulus-coordinates =
-      omega (
-        arith,
-        length-map (run 1 (multiplicity w - 1)) (coordinate w),
-        length-run 1 (multiplicity w - 1),
-        multiplicity-pos w fits,
-      )
+  modulus-coordinates = omega (arith, coordinates-number w, multiplicity-pos w fits)
 
   -- the coordinates of a closed word say its set
   pub said-coordinates : closed w ≡ true → (y : ℕ) → setSaid (kunzCoordinates w) y ≡ setOf w y

@@ -1,10 +1,10 @@
 -- The Kunz coordinates of a word of 64 bits, by its multiplicity m: what they are, their bounds, and the set and the gaps by them.
 -- Assumes nothing.
 use Prim.Native.Nat.{ℕ, zero, suc, _+_, _*_, _-_, _/_, _%_, _^_, _≤_, _<_}
-use mathlib.Core.Path.{_≡_, sym, ap, _∙_}
+use mathlib.Core.Path.{_≡_, refl, sym, ap, _∙_}
 use mathlib.Core.Logic.{_↔_}
 use mathlib.Core.Bool.{true, false, and-eq-true-iff}
-use mathlib.Core.List.{map, Memᴰ·cast, Memᴰ·map, Memᴰ·of-map}
+use mathlib.Core.List.{map, List·Memᴰ, Memᴰ·cast, Memᴰ·map, Memᴰ·of-map}
 use native.Mathlib.Omega.{arith}
 use native.Mathlib.Nat.{mul-zero, mul-suc, mul-add, one-mul, mul-le-mul-left, mul-le-mul-right, le-of-mul-le-mul-left, mul-lt-mul-of-pos-left, eq-of-mul-eq-mul-left, mul-div-right, div-add-mod, le-dest, lt-of-not-le, le-of-suc-le-suc}
 use lib.Dec.{eqb, leb}
@@ -17,11 +17,17 @@ use Rattle.words.specs.Elements.{multiplicity}
 use Rattle.words.proofs.Booleans.{true-together}
 use Rattle.words.proofs.Lists.{run-mem, mem-run, length-run, keep-mem, mem-keep, ordered-run, ordered-keep, ordered-map, ordered-unique, first-least}
 use Rattle.words.proofs.Counting.{least-of}
+use Rattle.words.proofs.Sets.{multiples-in}
 use Rattle.words.proofs.Words.{element-past, gaps-mem, mem-gaps, gaps-list}
 use Rattle.words.proofs.Elements.{multiplicity-in, multiplicity-pos, multiplicity-least}
 use Rattle.words.proofs.Closure.{closed-iff}
-use Rattle.kunz.specs.Coordinates.{CoordinateOf, apery, coordinate}
+use Rattle.kunz.specs.Coordinates.{CoordinateOf, apery, coordinate, kunzCoordinates}
 use Rattle.kunz.proofs.Residues.{residue-mod}
+
+-- there are m - 1 coordinates
+pub coordinates-number : (w : ℕ) → length (kunzCoordinates w) ≡ multiplicity w - 1
+unfolding kunzCoordinates
+coordinates-number w = length-map (run 1 (multiplicity w - 1)) (coordinate w) ∙ length-run 1 (multiplicity w - 1)
 
 -- a set has one coordinate at i
 pub coordinate-unique : (S : Set) (m i x y : ℕ) → 0 < m → CoordinateOf S m i x → CoordinateOf S m i y → x ≡ y
@@ -94,6 +100,14 @@ module _ (w : ℕ) (fits : w < 2 ^ 64) where
       let here : m * coordinate w i + i ≡ i = omega (arith, mul-le-mul-left m none, mul-zero m) in
       omega (arith, multiplicity-least w fits i pos (ap (setOf w) (sym here) ∙ coordinate-of i h .element)))
 
+  -- so that each of the list is at least 1
+  pub coordinates-positive : (x : ℕ) → List·Memᴰ x (kunzCoordinates w) → 1 ≤ x
+  unfolding kunzCoordinates
+  coordinates-positive x m =
+      let (i, r, e) = Memᴰ·of-map (coordinate w) (run 1 (multiplicity w - 1)) m in
+      let (low, high) = run-mem 1 (multiplicity w - 1) r in
+      omega (arith, coordinate-positive i low (omega arith))
+
   -- each is at most 64, the width of the word
   pub coordinate-bound : (i : ℕ) → i < multiplicity w → coordinate w i ≤ 64
   coordinate-bound zero h = omega (arith, coordinate-zero)
@@ -106,14 +120,9 @@ module _ (w : ℕ) (fits : w < 2 ^ 64) where
   -- ---- the set of a closed word by its coordinates
 
   module _ (c : closed w ≡ true) where
-    -- the multiples of m are elements
-    multiple-in : (k : ℕ) → setOf w (m * k) ≡ true
-    unfolding setOf
-    multiple-in zero = ap (setOf w) (mul-zero m)
-    multiple-in (suc k) = ap (setOf w) (mul-suc m k) ∙ closed-iff w fits .0 c (m * k) m (multiple-in k) (multiplicity-in w fits)
-
     -- m t + i is an element where t is at least the coordinate at i
     pub element-from-coordinate : (t i : ℕ) → i < multiplicity w → setOf w (multiplicity w * t + i) ≡ leb (coordinate w i) t
+    unfolding setOf
     element-from-coordinate t i h =
         let x = coordinate w i in
         let k = coordinate-of i h in
@@ -122,7 +131,8 @@ module _ (w : ℕ) (fits : w < 2 ^ 64) where
         (λ e.
         let (d, q) = le-dest (leb-true x t e) in
         let parts : m * t + i ≡ m * x + i + m * d = omega (arith, ap (λ (n : ℕ). m * n) q, mul-add m x d) in
-        ap (setOf w) parts ∙ closed-iff w fits .0 c (m * x + i) (m * d) (k .element) (multiple-in d))
+        let sums = closed-iff w fits .0 c in
+        ap (setOf w) parts ∙ sums (m * x + i) (m * d) (k .element) (multiples-in (setOf w) refl sums m (multiplicity-in w fits) d))
 
     -- and a gap where t is below it
     pub gap-below-coordinate : (t i : ℕ) → i < multiplicity w → (setOf w (multiplicity w * t + i) ≡ false) ↔ (t < coordinate w i)

@@ -9,7 +9,7 @@ use Rattle.words.specs.Answers.{given, ListAnswer}
 use Rattle.words.proofs.Elements.{multiplicity-pos}
 use Rattle.words.proofs.Answers.{no-room, room}
 use Rattle.kunz.specs.Coordinates.{kunzCoordinates, coordinatesOf}
-use Rattle.kunz.proofs.RoundTrips.{coordinates-number}
+use Rattle.kunz.proofs.WordCoordinates.{coordinates-number}
 use Rattle.kunz.proofs.coordinates_of.Statement.{statement}
 use Rattle.kunz.proofs.coordinates_of.Tie as tie
 

@@ -2,13 +2,13 @@
 -- word whose genus is the sum stands for the inequalities. Assumes nothing.
 use Prim.Native.Nat.{ℕ, _≤_}
 use mathlib.Core.Path.{_≡_, sym, ap, ap₂, _∙_}
-use mathlib.Core.Bool.{_&&_}
+use mathlib.Core.Bool.{true, _&&_}
 use mathlib.Core.List.{List}
 use native.Mathlib.Omega.{arith}
 use borrow.Author.Needs.{needs}
 use borrow.Author.Tests.{lt-leb, le-leb, not-true, not-false}
-use lib.Dec.{eqb}
-use Rattle.words.specs.Lists.{sumOver}
+use lib.Dec.{eqb, ltb, leb}
+use Rattle.words.specs.Lists.{every, sumOver}
 use Rattle.words.specs.Words.{closed, genus}
 use Rattle.words.specs.Answers.{given}
 use Rattle.words.proofs.Lists.{length-le-sum}
@@ -21,18 +21,22 @@ use Rattle.kunz.proofs.word_from_coordinates.Tie as tie
 abbrev total : List ℕ → ℕ
 total l = sumOver (λ x. x) l
 
--- after the first two questions: what the third asks is what was asked of the word
-asked-of-word : (c : tie.After-accepted-of-genus)
-    → let l = c .before .before .before .before .before .before .before .args .list .now in
-    (total l ≤ 32) × (inequalities l ≡ c .accepted-of-genus .result)
-asked-of-word c =
+-- the list, once the word of its gaps was looked at
+abbrev given-list : tie.After-accepted-of-genus → List ℕ
+given-list c = c .before .before .before .before .before .before .before .args .list .now
+
+-- then the first two questions were answered yes, and what the third asks is what was asked of the word
+three-questions : (c : tie.After-accepted-of-genus) → (every (ltb 0) (given-list c) ≡ true) × (leb (total (given-list c)) 32 ≡ true)
+    × (inequalities (given-list c) ≡ c .accepted-of-genus .result)
+three-questions c =
     let at-sum = c .before .before .before in
-    let l = at-sum .before .before .before .before .args .list .now in
+    let l = given-list c in
     let few : total l ≤ 32 = omega (arith, at-sum .sum-to-33 .ensures) in
     let sum : at-sum .sum-to-33 .result ≡ total l = omega (arith, at-sum .sum-to-33 .ensures) in (
-      few,
-      inequalities-by-word l few ∙ sym (c .accepted-of-genus .ensures
-          ∙ ap₂ (λ (w g : ℕ). closed w && eqb (genus w) g) (c .before .gap-word .ensures) sum),
+      sym (at-sum .before .before .all-positive .ensures) ∙ not-false _ (at-sum .before .if1 .left),
+      le-leb (total l) 32 few,
+      inequalities-by-word l few
+          ∙ sym (c .accepted-of-genus .ensures ∙ ap₂ (λ (w g : ℕ). closed w && eqb (genus w) g) (c .before .gap-word .ensures) sum),
     )
 
 all-positive-requires : tie.Need-all-positive-requires
@@ -65,27 +69,13 @@ accepted-of-genus-requires c κs = omega arith
 
 returns-3 : tie.Need-returns-3
 unfolding wordFromCoordinatesOf
-returns-3 c =
-    let at-sum = c .before .before .before .before in
-    let at-test = at-sum .before .before in
-    let (few, third) = asked-of-word (c .before) in
-    simp (
-      sym (at-test .all-positive .ensures) ∙ not-false _ (at-sum .before .if1 .left),
-      le-leb _ 32 few,
-      third ∙ not-true _ (c .if3 .taken),
-    )
+returns-3 c = let (p, q, r) = three-questions (c .before) in simp (p, q, r ∙ not-true _ (c .if3 .taken))
 
 returns-4 : tie.Need-returns-4
 unfolding wordFromCoordinatesOf
 returns-4 c =
-    let at-sum = c .before .before .before .before in
-    let at-test = at-sum .before .before in
-    let (few, third) = asked-of-word (c .before) in
-    simp (
-      sym (at-test .all-positive .ensures) ∙ not-false _ (at-sum .before .if1 .left),
-      le-leb _ 32 few,
-      third ∙ not-false _ (c .if3 .left),
-    ) (ap given (c .before .before .gap-word .ensures))
+    let (p, q, r) = three-questions (c .before) in
+    simp (p, q, r ∙ not-false _ (c .if3 .left)) (ap given (c .before .before .gap-word .ensures))
 
 pub word-from-coordinates-spec : {M : Type 1} → statement M
 word-from-coordinates-spec =
