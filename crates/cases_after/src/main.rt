@@ -40,18 +40,24 @@ fn answer(a: NumberAnswer) {
     text(b"\n");
 }
 
+// The bytes that a call listed, and its answer.
+fn listed(a: NumberAnswer, list: &[u8]) {
+    if let NumberAnswer::Given(n) = a {
+        let n = n as usize;
+        if n <= list.len() {
+            text(b" are");
+            bytes(&list[..n]);
+        }
+    }
+    answer(a);
+}
+
 fn show_generators(word: u64) {
     text(b"generators of");
     field(word);
     let mut list = [0u8; 33];
     let a = generators::generators(word, &mut list);
-    if let NumberAnswer::Given(n) = a {
-        if n <= 33 {
-            text(b" are");
-            bytes(&list[..n as usize]);
-        }
-    }
-    answer(a);
+    listed(a, &list);
 }
 
 fn show_word_from(list: &[u8]) {
@@ -72,13 +78,7 @@ fn show_coordinates(word: u64) {
     field(word);
     let mut list = [0u8; 32];
     let a = kunz::coordinates(word, &mut list);
-    if let NumberAnswer::Given(n) = a {
-        if n <= 32 {
-            text(b" are");
-            bytes(&list[..n as usize]);
-        }
-    }
-    answer(a);
+    listed(a, &list);
 }
 
 fn show_word_from_coordinates(list: &[u8]) {
