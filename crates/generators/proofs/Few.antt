@@ -10,8 +10,8 @@ use lib.ListN.{length}
 use borrow.Author.Tests.{ltb-true, ltb-false, not-true}
 use Rattle.words.specs.Sets.{Set, ClosedUnderAddition, gapsTo}
 use Rattle.words.proofs.Booleans.{not-both, is-true, by-value}
-use Rattle.words.proofs.Counting.{count-up, count-le-length, half-gaps, gaps-to-count}
 use Rattle.words.proofs.Sets.{gap-positive, mem-gaps-to, gaps-to-ordered}
+use Rattle.words.proofs.Counting.{count-up, count-le-length, half-gaps, gaps-to-count}
 use Rattle.generators.specs.Sums.{AtMostGaps}
 
 module _ (S : Set) where

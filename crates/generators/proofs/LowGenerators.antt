@@ -19,10 +19,10 @@ use Rattle.words.proofs.Booleans.{not-both, is-false, by-value, true-together}
 use Rattle.words.proofs.Lists.{run-mem, mem-run, keep-mem, mem-keep, ordered-run, ordered-keep, ordered-unique, every-mem, every-false, some-more, run-append}
 use Rattle.words.proofs.Bits.{bit-low, bit-not, one-shl}
 use Rattle.words.proofs.Sets.{sum-of, sum-found, same-sums}
+use Rattle.words.proofs.BitSets.{bits-from-is, bits-from-same, bits-from-listed, bits-from-none, bits-from-not, bits-from-or, bits-from-and, bits-from-shl}
 use Rattle.words.proofs.Elements.{conductor-pos, generator-parts}
 use Rattle.words.proofs.Closure.{conductor-le-64}
 use Rattle.words.proofs.Answers.{word-given}
-use Rattle.words.proofs.BitSets.{bits-from-is, bits-from-same, bits-from-listed, bits-from-none, bits-from-not, bits-from-or, bits-from-and, bits-from-shl}
 use Rattle.tables.specs.Seeds.{setBelow}
 use Rattle.tables.specs.Nodes.{nodeOf, firstRow}
 use Rattle.tables.specs.Answers.{nodeAnswer}

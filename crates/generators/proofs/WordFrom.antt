@@ -15,15 +15,15 @@ use Rattle.words.specs.Answers.{refused, given, Accepted, filled}
 use Rattle.words.proofs.Booleans.{not-both, is-false}
 use Rattle.words.proofs.Lists.{positive-iff, zero-iff, fronted-front}
 use Rattle.words.proofs.Words.{gaps-of, same-set, word-of-set}
+use Rattle.words.proofs.Elements.{generator-parts, generator-of}
 use Rattle.words.proofs.Closure.{closed-iff}
-use Rattle.words.proofs.Answers.{first-no, second-no, third-no, all-yes, list-given, room}
 use Rattle.generators.specs.Divisors.{gcdOf}
 use Rattle.generators.specs.Sums.{spans, AtMostGaps, Positive, WordOfSums}
 use Rattle.generators.specs.Generators.{minimalGenerators, generatorsOf, fewGaps, wordFromOf}
 use Rattle.generators.proofs.Sums.{sum-zero, spans-iff, spans-closed}
 use Rattle.generators.proofs.Few.{gap-below-64, gaps-to-le, few-iff}
 use Rattle.generators.proofs.MinimalGenerators.{generators-mem, mem-generators, generators-span, generators-gcd, generators-least}
-use Rattle.words.proofs.Elements.{generator-parts, generator-of}
+use Rattle.words.proofs.Answers.{first-no, second-no, third-no, all-yes, list-given, room}
 
 -- ---- the questions
 

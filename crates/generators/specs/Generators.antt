@@ -5,10 +5,10 @@ use mathlib.Core.List.{List}
 use lib.Dec.{eqb, ltb, leb}
 use lib.ListN.{length}
 use Rattle.words.specs.Lists.{run, keep, every}
+use Rattle.words.specs.Sets.{gapsTo}
 use Rattle.words.specs.Words.{conductor, wordOf}
 use Rattle.words.specs.Elements.{multiplicity, generator}
 use Rattle.words.specs.Answers.{Answer, refused, given, ask, ListAnswer, listedInto}
-use Rattle.words.specs.Sets.{gapsTo}
 use Rattle.generators.specs.Divisors.{gcdOf}
 use Rattle.generators.specs.Sums.{spans}
 

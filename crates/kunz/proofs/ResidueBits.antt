@@ -17,9 +17,9 @@ use Rattle.words.specs.Positions.{bitsFrom}
 use Rattle.words.specs.Elements.{multiplicity}
 use Rattle.words.proofs.Booleans.{not-both, by-value, true-together}
 use Rattle.words.proofs.Bits.{bit-and, bit-past, bit-shr, bit-shl, bit-shl-low, bit-mod, bit-low}
-use Rattle.words.proofs.BitSets.{bits-from-bit, bits-from-lt, bits-from-is, bits-from-none, bits-from-same, bits-from-or, word-bits}
 use Rattle.words.proofs.Counting.{countBelow, count-same}
 use Rattle.words.proofs.StandingBits.{ones-count}
+use Rattle.words.proofs.BitSets.{bits-from-bit, bits-from-lt, bits-from-is, bits-from-none, bits-from-same, bits-from-or, word-bits}
 use Rattle.kunz.specs.Coordinates.{coordinate, modulus, entryAt, setSaid}
 use Rattle.kunz.proofs.Residues.{residue-mod, count-multiples, count-threshold}
 use Rattle.kunz.proofs.WordCoordinates.{coordinate-bound, element-from-coordinate}

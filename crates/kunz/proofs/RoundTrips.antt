@@ -20,8 +20,8 @@ use Rattle.words.proofs.Lists.{positive-iff, zero-iff, fronted-front}
 use Rattle.words.proofs.Sets.{genus-unique, gaps-to-all}
 use Rattle.words.proofs.Words.{word-of-set, word-genus, gaps-to-list, gaps-of-word, same-set}
 use Rattle.words.proofs.Counting.{countBelow, gaps-to-count, gap-bound, count-out, count-up, count-lt}
-use Rattle.words.proofs.Closure.{closed-iff}
 use Rattle.words.proofs.Elements.{multiplicity-in, multiplicity-pos, multiplicity-least, multiplicity-le-genus}
+use Rattle.words.proofs.Closure.{closed-iff}
 use Rattle.words.proofs.Answers.{first-no, second-no, third-no, all-yes, list-given, room}
 use Rattle.kunz.specs.Coordinates.{coordinate, kunzCoordinates, modulus, entryAt, inequalities, InequalitiesHold, setSaid, AcceptedCoordinates, coordinatesOf, wordFromCoordinatesOf}
 use Rattle.kunz.proofs.WordCoordinates.{coordinate-is, coordinates-number, coordinates-positive}

@@ -16,9 +16,9 @@ use Rattle.words.specs.Words.{setOf, gaps, closed}
 use Rattle.words.specs.Elements.{multiplicity}
 use Rattle.words.proofs.Booleans.{true-together}
 use Rattle.words.proofs.Lists.{run-mem, mem-run, length-run, keep-mem, mem-keep, ordered-run, ordered-keep, ordered-map, ordered-unique, first-least}
-use Rattle.words.proofs.Counting.{least-of}
 use Rattle.words.proofs.Sets.{multiples-in}
 use Rattle.words.proofs.Words.{element-past, gaps-mem, mem-gaps, gaps-list}
+use Rattle.words.proofs.Counting.{least-of}
 use Rattle.words.proofs.Elements.{multiplicity-in, multiplicity-pos, multiplicity-least}
 use Rattle.words.proofs.Closure.{closed-iff}
 use Rattle.kunz.specs.Coordinates.{CoordinateOf, apery, coordinate, kunzCoordinates}

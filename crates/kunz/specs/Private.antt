@@ -5,6 +5,6 @@ use Rattle.words.specs.Elements.{multiplicity}
 use Rattle.words.specs.Answers.{Accepted}
 
 -- w is accepted, and m is its multiplicity
-pub record AcceptedBy (w m : ℕ) : Type 0 where
+pub record AcceptedWithMultiplicity (w m : ℕ) : Type 0 where
   pub accepted : Accepted w
   pub multiplicity-is : m ≡ multiplicity w

@@ -10,7 +10,7 @@ ghost use Rattle.words.specs.Words.{closed, genus, wordOf};
 ghost use Rattle.words.specs.Positions.{bitsFrom};
 ghost use Rattle.words.specs.Answers.{answered, listed};
 ghost use Rattle.kunz.specs.Coordinates.{kunzCoordinates, setSaid, coordinatesOf, wordFromCoordinatesOf};
-ghost use Rattle.kunz.specs.Private.{AcceptedBy};
+ghost use Rattle.kunz.specs.Private.{AcceptedWithMultiplicity};
 use words::LookAnswer;
 use words::NumberAnswer;
 use words::Refusal;
@@ -32,7 +32,7 @@ fn multiples(m: u64) -> u64
 // Writes the coordinates of an accepted word of multiplicity `m`: the bits that stand at multiples of m, in the word shifted down to the
 // residue, are the gaps of that residue.
 fn write_coordinates(word: u64, m: u64, out: &mut [u8])
-    requires { ⌜ AcceptedBy word m × (length (kunzCoordinates word) ≤ length (now out)) ⌝ }
+    requires { ⌜ AcceptedWithMultiplicity word m × (length (kunzCoordinates word) ≤ length (now out)) ⌝ }
     ensures { λ r. ⌜ now (out .exit) ≡ fronted (kunzCoordinates word) (now (out .entry)) ⌝ }
 {
     let places = multiples(m);
@@ -43,7 +43,7 @@ fn write_coordinates(word: u64, m: u64, out: &mut [u8])
 
 // The coordinates of an accepted word of multiplicity `m` into the lent list.
 fn coordinates_of(word: u64, m: u64, out: &mut [u8]) -> NumberAnswer
-    requires { ⌜ AcceptedBy word m ⌝ }
+    requires { ⌜ AcceptedWithMultiplicity word m ⌝ }
     ensures { λ r. ⌜ listed r (now (out .exit)) ≡ coordinatesOf word (now (out .entry)) ⌝ }
 {
     let count = m - 1;

@@ -12,10 +12,10 @@ use borrow.Author.Tests.{leb-true, le-leb, lt-leb}
 use Rattle.words.specs.Lists.{fronted}
 use Rattle.words.specs.Sets.{ClosedUnderAddition}
 use Rattle.words.specs.Words.{setOf, genus, closed}
+use Rattle.words.specs.Answers.{Answer, Accepted, refused, given, numberOf, ask, askWord, reportOf, lookOf, ListAnswer, unchanged, filled, listedInto}
 use Rattle.words.specs.declared.Refusal.{Refusal}
 use Rattle.words.specs.declared.Refusal.the-variants.{TooManyGaps, NotClosed, GenusTooLarge, WalkOutOfOrder, NotAGenerator, ListTooShort, ZeroGenerator, CommonDivisor, TooManyGapsGenerated, MalformedInput, ZeroCoordinate, CoordinateSumTooLarge, FailedInequality}
 use Rattle.words.specs.declared.Report.{Report}
-use Rattle.words.specs.Answers.{Answer, Accepted, refused, given, numberOf, ask, askWord, reportOf, lookOf, ListAnswer, unchanged, filled, listedInto}
 use Rattle.words.proofs.Closure.{closed-iff}
 
 -- ---- numbers of refusals

@@ -5,8 +5,8 @@ use native.Mathlib.Omega.{arith}
 use borrow.Author.Needs.{needs}
 use borrow.Author.Tests.{ne-eqb}
 use lib.Dec.{eqb}
-use Rattle.words.proofs.Bits.{one-shl}
 use Rattle.words.specs.Positions.{bitsFrom}
+use Rattle.words.proofs.Bits.{one-shl}
 use Rattle.words.proofs.BitSets.{bits-from-none, bits-from-one}
 use Rattle.generators.proofs.bit_from.Statement.{statement}
 use Rattle.generators.proofs.bit_from.Tie as tie

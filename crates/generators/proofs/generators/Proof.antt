@@ -1,10 +1,10 @@
 -- `generators::generators` meets its contract: the node of an accepted word tells what the work needs. Assumes nothing.
 use mathlib.Core.Path.{sym, ap, _∙_}
 use borrow.Author.Needs.{needs}
-use Rattle.words.proofs.Answers.{word-refused}
+use Rattle.words.specs.Answers.{unchanged, listedInto}
 use Rattle.tables.specs.Nodes.{nodeOf}
 use Rattle.tables.specs.Answers.{noded, nodeAnswer}
-use Rattle.words.specs.Answers.{unchanged, listedInto}
+use Rattle.words.proofs.Answers.{word-refused}
 use Rattle.generators.specs.Generators.{generatorsOf}
 use Rattle.generators.proofs.LowGenerators.{node-known}
 use Rattle.generators.proofs.generators.Statement.{statement}

@@ -6,12 +6,12 @@ use native.Mathlib.Omega.{arith}
 use native.Mathlib.Nat.{zero-add}
 use lib.ListN.{length, length-map}
 use borrow.Author.Needs.{needs}
+use Rattle.words.specs.Lists.{fronted}
 use Rattle.words.specs.Positions.{positions}
 use Rattle.words.specs.Answers.{given, ListAnswer}
-use Rattle.words.proofs.StandingBits.{positions-le}
 use Rattle.generators.specs.Generators.{minimalGenerators, generatorsOf}
-use Rattle.words.specs.Lists.{fronted}
 use Rattle.words.proofs.Lists.{fronted-length, fronted-twice}
+use Rattle.words.proofs.StandingBits.{positions-le}
 use Rattle.words.proofs.Answers.{no-room, room}
 use Rattle.generators.proofs.LowGenerators.{conductor-small, generators-listed, generators-length}
 use Rattle.generators.proofs.generators_of.Statement.{statement}

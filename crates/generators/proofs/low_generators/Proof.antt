@@ -8,10 +8,10 @@ use lib.Pow.{pow-pos}
 use lib.Bits.{bitAnd, bitOr}
 use borrow.Author.Tests.{eq-eqb, ne-eqb}
 use Rattle.words.specs.Words.{bit}
-use Rattle.words.proofs.Bits.{bit-test, one-shl}
-use Rattle.words.proofs.Elements.{conductor-pos}
 use Rattle.words.specs.Positions.{bitsFrom}
+use Rattle.words.proofs.Bits.{bit-test, one-shl}
 use Rattle.words.proofs.BitSets.{bits-from-bit}
+use Rattle.words.proofs.Elements.{conductor-pos}
 use Rattle.generators.proofs.LowGenerators.{belowConductor, below-bits, sumTo, sums-none, sums-more, sums-same, low-bits-found}
 use Rattle.generators.proofs.low_generators.Statement.{statement}
 use Rattle.generators.proofs.low_generators.Tie as tie
