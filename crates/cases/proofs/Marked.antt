@@ -7,7 +7,7 @@ use native.Mathlib.Omega.{arith}
 use lib.ListN.{length, getD, drop}
 use Rattle.words.specs.Lists.{fronted}
 use Rattle.words.specs.GenusList.{genusList}
-use Rattle.words.specs.Answers.{Answer, refused, given, lookOf}
+use Rattle.words.specs.Answers.{Answer, refused, given, lookOf, giving, filled}
 use Rattle.words.specs.declared.Report.{Report}
 use Rattle.words.proofs.Answers.{look-given, room}
 use Rattle.words.proofs.Cases.{known-looks, known-list}
@@ -33,7 +33,7 @@ pub record Marked : Type 0 where
   pub word-111 : (lookOf 111 ≡ lookGiven 6 5 8) × (tableOf 111 ≡ given 251)
   pub word-91 : (lookOf 91 ≡ lookGiven 5 3 8) × (tableOf 91 ≡ given 237)
   -- in any list that holds them
-  pub generators-of-91 : (lent : List ℕ) → 3 ≤ length lent → generatorsOf 91 lent ≡ record { answer = given 3; list = 3 ∷ 8 ∷ 10 ∷ drop 3 lent }
+  pub generators-of-91 : (lent : List ℕ) → 3 ≤ length lent → generatorsOf 91 lent ≡ giving 3 (3 ∷ 8 ∷ 10 ∷ drop 3 lent)
   pub word-13 : lookOf 13 ≡ refused 2
   pub children-of-1 : (childOf 1 2 ≡ given 3) × (childOf 1 3 ≡ given 5) × (childOf 1 4 ≡ refused 5)
   pub genus-4 : genusList 4 ≡ 15 ∷ 23 ∷ 39 ∷ 71 ∷ 27 ∷ 75 ∷ 85 ∷ []
@@ -58,13 +58,13 @@ number : {k l : List (Answer ℕ)} (i : ℕ) → k ≡ l → getD k i (refused 0
 number i e = ap (λ (l : List (Answer ℕ)). getD l i (refused 0)) e
 
 -- the word 91 is accepted, and its generators are 3, 8 and 10
-generators-of-91 : (lent : List ℕ) → 3 ≤ length lent → generatorsOf 91 lent ≡ record { answer = given 3; list = 3 ∷ 8 ∷ 10 ∷ drop 3 lent }
+generators-of-91 : (lent : List ℕ) → 3 ≤ length lent → generatorsOf 91 lent ≡ giving 3 (3 ∷ 8 ∷ 10 ∷ drop 3 lent)
 unfolding fronted generatorsOf
 generators-of-91 lent long =
     let three : minimalGenerators 91 ≡ 3 ∷ 8 ∷ 10 ∷ [] = ap (λ (l : List (List ℕ)). getD l 1 []) known-generators in
     let accepted = look-given 91 _ (look 4) .0 in
     room 91 (minimalGenerators 91) lent accepted (omega (arith, ap length three))
-    ∙ ap (λ (l : List ℕ). record { answer = given (length l); list = fronted l lent }) three
+    ∙ ap (λ (l : List ℕ). filled l lent) three
 
 pub marked : Marked
 marked = record {

@@ -5,7 +5,7 @@ use Rattle.words.specs.Lists.{run, keep, keepIf, every, lastOr, fronted}
 use Rattle.words.specs.Sets.{sumOfTwo, gapsTo}
 use Rattle.words.specs.Words.{bit, setOf, gaps, genus, largestGap, conductor, closed, wordOf}
 use Rattle.words.specs.Elements.{multiplicity, generator}
-use Rattle.words.specs.Answers.{refused, given, askWord, unchanged, listedInto}
+use Rattle.words.specs.Answers.{refused, given, askWord, unchanged, listedInto, giving}
 use Rattle.generators.specs.Divisors.{euclid, gcd, gcdOf}
 use Rattle.generators.specs.Sums.{further, sumsDown, spans}
 use Rattle.generators.specs.Generators.{minimalGenerators, generatorsOf, fewGaps, wordFromOf}
@@ -22,7 +22,7 @@ unfolding run keep keepIf every wordOf euclid gcd gcdOf further sumsDown spans g
 known-words = refl
 
 -- the generators of 91 into a list of four places, where the last stays, and into one of two, which is refused; those of 13, which is not closed
-pub known-listings : (generatorsOf 91 (1 ∷ 2 ∷ 4 ∷ 7 ∷ []) ≡ record { answer = given 3; list = 3 ∷ 8 ∷ 10 ∷ 7 ∷ [] })
+pub known-listings : (generatorsOf 91 (1 ∷ 2 ∷ 4 ∷ 7 ∷ []) ≡ giving 3 (3 ∷ 8 ∷ 10 ∷ 7 ∷ []))
     × (generatorsOf 91 (1 ∷ 2 ∷ []) ≡ unchanged (1 ∷ 2 ∷ []) 6) × (generatorsOf 13 [] ≡ unchanged [] 2)
 unfolding run keep keepIf every lastOr sumOfTwo bit setOf gaps genus largestGap conductor closed multiplicity generator minimalGenerators fronted askWord listedInto generatorsOf
 known-listings = (refl, refl, refl)

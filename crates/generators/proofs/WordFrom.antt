@@ -11,7 +11,7 @@ use borrow.Author.Tests.{leb-true, le-leb, eqb-true, eqb-false, eq-eqb, ne-eqb}
 use Rattle.words.specs.Lists.{every}
 use Rattle.words.specs.Sets.{Set, sumOfTwo, ClosedUnderAddition, GapsOf, gapsTo}
 use Rattle.words.specs.Words.{setOf, gaps, genus, wordOf}
-use Rattle.words.specs.Answers.{refused, given, Accepted, filled}
+use Rattle.words.specs.Answers.{refused, given, Accepted, filled, giving}
 use Rattle.words.proofs.Booleans.{not-both, is-false}
 use Rattle.words.proofs.Lists.{positive-iff, zero-iff, fronted-front}
 use Rattle.words.proofs.Words.{gaps-of, same-set, word-of-set}
@@ -110,7 +110,7 @@ generators-give-word w fits h =
     })
 
 -- what the call writes of an accepted word, given back, gives the word
-pub listed-give-word : (w : ℕ) → w < 2 ^ 64 → (lent l : List ℕ) (n : ℕ) → generatorsOf w lent ≡ record { answer = given n; list = l } → wordFromOf (take n l) ≡ given w
+pub listed-give-word : (w : ℕ) → w < 2 ^ 64 → (lent l : List ℕ) (n : ℕ) → generatorsOf w lent ≡ giving n l → wordFromOf (take n l) ≡ given w
 unfolding generatorsOf
 listed-give-word w fits lent l n e =
     let (h, count, list) = list-given w (minimalGenerators w) lent l n e in

@@ -5,7 +5,7 @@ use Rattle.words.specs.Lists.{run, keep, keepIf, every, sumOver, fronted}
 use Rattle.words.specs.Sets.{gapsTo, sumOfTwo}
 use Rattle.words.specs.Words.{bit, setOf, gaps, genus, closed, wordOf}
 use Rattle.words.specs.Elements.{multiplicity}
-use Rattle.words.specs.Answers.{refused, given, askWord, unchanged, listedInto}
+use Rattle.words.specs.Answers.{refused, given, askWord, unchanged, listedInto, giving}
 use Rattle.kunz.specs.Coordinates.{apery, coordinate, kunzCoordinates, entryAt, inequality, inequalities, setSaid, coordinatesOf, wordFromCoordinatesOf}
 
 -- the words 0, 1, 91 and 75; of 91 the least elements that leave 1 and 2 are 10 and 8
@@ -28,8 +28,8 @@ known-refusals = refl
 
 -- the coordinates of 91 into a list of three places, where the last stays, and into one of one, which is refused; those of 0 into none;
 -- those of 13, which is not closed
-pub known-coordinate-listings : (coordinatesOf 91 (7 ∷ 7 ∷ 7 ∷ []) ≡ record { answer = given 2; list = 3 ∷ 2 ∷ 7 ∷ [] })
-    × (coordinatesOf 91 (7 ∷ []) ≡ unchanged (7 ∷ []) 6) × (coordinatesOf 0 [] ≡ record { answer = given 0; list = [] })
+pub known-coordinate-listings : (coordinatesOf 91 (7 ∷ 7 ∷ 7 ∷ []) ≡ giving 2 (3 ∷ 2 ∷ 7 ∷ []))
+    × (coordinatesOf 91 (7 ∷ []) ≡ unchanged (7 ∷ []) 6) × (coordinatesOf 0 [] ≡ giving 0 [])
     × (coordinatesOf 13 [] ≡ unchanged [] 2)
 unfolding run keep keepIf every sumOfTwo bit setOf gaps genus closed multiplicity apery coordinate kunzCoordinates fronted askWord listedInto coordinatesOf
 known-coordinate-listings = (refl, refl, refl, refl)

@@ -14,7 +14,7 @@ use Rattle.words.specs.Lists.{every, sumOver}
 use Rattle.words.specs.Sets.{Set, gapsTo, ClosedUnderAddition, NumericalSemigroup, HasGenus}
 use Rattle.words.specs.Words.{setOf, wordOf, genus, closed}
 use Rattle.words.specs.Elements.{multiplicity}
-use Rattle.words.specs.Answers.{refused, given, Accepted, filled}
+use Rattle.words.specs.Answers.{refused, given, Accepted, filled, giving}
 use Rattle.words.proofs.Booleans.{not-both, is-true, is-false, true-together}
 use Rattle.words.proofs.Lists.{positive-iff, zero-iff, fronted-front}
 use Rattle.words.proofs.Sets.{genus-unique, gaps-to-all}
@@ -210,7 +210,7 @@ module _ (w : ℕ) (fits : w < 2 ^ 64) where
         )
 
   -- what the call writes of an accepted word, given back, gives the word
-  pub listed-coordinates-give-word : (lent l : List ℕ) (n : ℕ) → coordinatesOf w lent ≡ record { answer = given n; list = l }
+  pub listed-coordinates-give-word : (lent l : List ℕ) (n : ℕ) → coordinatesOf w lent ≡ giving n l
       → wordFromCoordinatesOf (take n l) ≡ given w
   unfolding coordinatesOf
   listed-coordinates-give-word lent l n e =

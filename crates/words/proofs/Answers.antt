@@ -12,7 +12,7 @@ use borrow.Author.Tests.{leb-true, le-leb, lt-leb}
 use Rattle.words.specs.Lists.{fronted}
 use Rattle.words.specs.Sets.{ClosedUnderAddition}
 use Rattle.words.specs.Words.{setOf, genus, closed}
-use Rattle.words.specs.Answers.{Answer, Accepted, refused, given, numberOf, ask, askWord, reportOf, lookOf, ListAnswer, unchanged, filled, listedInto}
+use Rattle.words.specs.Answers.{Answer, Accepted, refused, given, numberOf, ask, askWord, reportOf, lookOf, ListAnswer, unchanged, filled, listedInto, giving}
 use Rattle.words.specs.declared.Refusal.{Refusal}
 use Rattle.words.specs.declared.Refusal.the-variants.{TooManyGaps, NotClosed, GenusTooLarge, WalkOutOfOrder, NotAGenerator, ListTooShort, ZeroGenerator, CommonDivisor, TooManyGapsGenerated, MalformedInput, ZeroCoordinate, CoordinateSumTooLarge, FailedInequality}
 use Rattle.words.specs.declared.Report.{Report}
@@ -152,13 +152,13 @@ module _ (w : ℕ) (l lent : List ℕ) where
   by-tests few sums holds = ask few (unchanged lent 1) (ask sums (unchanged lent 2) (ask holds (unchanged lent 6) (filled l lent)))
 
   -- a number and a list are told just of accepted words: how many numbers there are, and the lent list with all of them in front
-  pub list-given : (after : List ℕ) (n : ℕ) → listedInto w l lent ≡ record { answer = given n; list = after }
+  pub list-given : (after : List ℕ) (n : ℕ) → listedInto w l lent ≡ giving n after
       → Accepted w × (n ≡ length l) × (after ≡ fronted l lent)
   unfolding listedInto askWord
   list-given after n e = by-questions (leb (genus w) 32) refl (closed w) refl (leb (length l) (length lent)) e
     where
       by-questions : (few : Bool) → leb (genus w) 32 ≡ few → (sums : Bool) → closed w ≡ sums → (holds : Bool)
-          → by-tests few sums holds ≡ record { answer = given n; list = after } → Accepted w × (n ≡ length l) × (after ≡ fronted l lent)
+          → by-tests few sums holds ≡ giving n after → Accepted w × (n ≡ length l) × (after ≡ fronted l lent)
       by-questions true p true q true e =
           let same : given (length l) ≡ given n = ap (λ (r : ListAnswer). r .answer) e in
           let count : n ≡ length l = cc in

@@ -86,9 +86,13 @@ listed r after = record { answer = answered r; list = after }
 abbrev pub unchanged : List ℕ → ℕ → ListAnswer
 unchanged lent n = record { answer = refused n; list = lent }
 
+-- a number given, with this list afterwards
+abbrev pub giving : ℕ → List ℕ → ListAnswer
+giving n after = record { answer = given n; list = after }
+
 -- how many numbers l has, with all of them written
 abbrev pub filled : List ℕ → List ℕ → ListAnswer
-filled l lent = record { answer = given (length l); list = fronted l lent }
+filled l lent = giving (length l) (fronted l lent)
 
 -- the numbers l of the word w into the lent list: questions 1 and 2, then 6, does the list hold all of them
 unfoldable pub listedInto : ℕ → List ℕ → List ℕ → ListAnswer

@@ -8,7 +8,7 @@ use lib.ListN.{length, length-map}
 use borrow.Author.Needs.{needs}
 use Rattle.words.specs.Lists.{fronted}
 use Rattle.words.specs.Positions.{positions}
-use Rattle.words.specs.Answers.{given, ListAnswer}
+use Rattle.words.specs.Answers.{giving}
 use Rattle.generators.specs.Generators.{minimalGenerators, generatorsOf}
 use Rattle.words.proofs.Lists.{fronted-length, fronted-twice}
 use Rattle.words.proofs.StandingBits.{positions-le}
@@ -16,10 +16,6 @@ use Rattle.words.proofs.Answers.{no-room, room}
 use Rattle.generators.proofs.LowGenerators.{conductor-small, generators-listed, generators-length}
 use Rattle.generators.proofs.generators_of.Statement.{statement}
 use Rattle.generators.proofs.generators_of.Tie as tie
-
--- n numbers are given, in the list l
-abbrev giving : ℕ → List ℕ → ListAnswer
-giving n l = record { answer = given n; list = l }
 
 -- the room for the first part is known before it is written
 write-bits-requires : tie.Need-write-bits-requires

@@ -1,11 +1,10 @@
 -- `kunz::coordinates_of` meets its contract. Assumes nothing.
 use Prim.Native.Nat.{ℕ, _-_}
 use mathlib.Core.Path.{_≡_, sym, ap₂, _∙_}
-use mathlib.Core.List.{List}
 use native.Mathlib.Omega.{arith}
 use borrow.Author.Needs.{needs}
 use lib.ListN.{length}
-use Rattle.words.specs.Answers.{given, ListAnswer}
+use Rattle.words.specs.Answers.{giving}
 use Rattle.words.proofs.Elements.{multiplicity-pos}
 use Rattle.words.proofs.Answers.{no-room, room}
 use Rattle.kunz.specs.Coordinates.{kunzCoordinates, coordinatesOf}
@@ -33,10 +32,6 @@ write-coordinates-requires c κs =
 
 same-length : tie.Need-same-length
 same-length c = search needs
-
--- the number and the list, as `listed` puts them together
-abbrev giving : ℕ → List ℕ → ListAnswer
-giving n l = record { answer = given n; list = l }
 
 returns-2 : tie.Need-returns-2
 unfolding coordinatesOf
