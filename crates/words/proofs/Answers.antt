@@ -1,5 +1,5 @@
--- That the number of a refusal tells the refusal, which words are accepted, what a look at a word tells a caller, and what a call that
--- lists numbers of a word does. Assumes nothing.
+-- That the number of a refusal tells the refusal, how an answer tells which of three questions was answered no, which words are accepted,
+-- what a look at a word tells a caller, and what a call that lists numbers of a word does. Assumes nothing.
 use Prim.Native.Nat.{ℕ, _-_, _^_, _≤_, _<_}
 use mathlib.Core.Path.{_≡_, refl, sym, _∙_, ap}
 use mathlib.Core.Logic.{_↔_}
@@ -69,27 +69,32 @@ number-range FailedInequality = omega arith
 
 -- which of three questions, with rising numbers, are answered yes and no for which answer
 module _ {A : Type 0} (a b c : ℕ) (low : a < b) (high : b < c) (value : A) where
+  -- the answer by the three tests
   abbrev by-three : Bool → Bool → Bool → Answer A
   by-three p q r = ask p (refused a) (ask q (refused b) (ask r (refused c) (given value)))
 
+  -- the first answered no
   pub first-no : (p q r : Bool) → by-three p q r ≡ refused a → p ≡ false
   first-no false q r e = refl
   first-no true false r e = let same : b ≡ a = cc in absurd (omega arith)
   first-no true true false e = let same : c ≡ a = cc in absurd (omega arith)
   first-no true true true e = let z : _≡_ {A = ℕ} 0 1 = cc in absurd (omega arith)
 
+  -- the second
   pub second-no : (p q r : Bool) → by-three p q r ≡ refused b → (p ≡ true) × (q ≡ false)
   second-no false q r e = let same : a ≡ b = cc in absurd (omega arith)
   second-no true false r e = (refl, refl)
   second-no true true false e = let same : c ≡ b = cc in absurd (omega arith)
   second-no true true true e = let z : _≡_ {A = ℕ} 0 1 = cc in absurd (omega arith)
 
+  -- the third
   pub third-no : (p q r : Bool) → by-three p q r ≡ refused c → (p ≡ true) × (q ≡ true) × (r ≡ false)
   third-no false q r e = let same : a ≡ c = cc in absurd (omega arith)
   third-no true false r e = let same : b ≡ c = cc in absurd (omega arith)
   third-no true true false e = (refl, refl, refl)
   third-no true true true e = let z : _≡_ {A = ℕ} 0 1 = cc in absurd (omega arith)
 
+  -- all answered yes
   pub all-yes : (v : A) (p q r : Bool) → by-three p q r ≡ given v → (p ≡ true) × (q ≡ true) × (r ≡ true) × (value ≡ v)
   all-yes v false q r e = let z : _≡_ {A = ℕ} 0 1 = cc in absurd (omega arith)
   all-yes v true false r e = let z : _≡_ {A = ℕ} 0 1 = cc in absurd (omega arith)

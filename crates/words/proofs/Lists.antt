@@ -1,4 +1,5 @@
--- Laws of `run`, `keep`, `every`, `joined`, `begins` and rising lists: what they hold, in which order, and how many. Assumes nothing.
+-- Laws of `run`, `keep`, `every`, `joined`, `sumOver`, `begins`, `fronted` and rising lists: what they hold, in which order, and how many.
+-- Assumes nothing.
 use Prim.Native.Nat.{ℕ, zero, suc, _+_, _-_, _*_, _^_, _≤_, _<_, min}
 use mathlib.Core.Path.{_≡_, refl, sym, _∙_, ap, ap₂, subst}
 use mathlib.Core.Logic.{_⊎_, inl, inr, _↔_, ⊎-elim}
