@@ -12,6 +12,7 @@ use Rattle.words.specs.Positions.{bitsFrom}
 use Rattle.words.proofs.Booleans.{by-value, true-together}
 use Rattle.words.proofs.Bits.{one-shl}
 use Rattle.words.proofs.BitSets.{bits-from-none, bits-from-same, bits-from-or, bits-from-one}
+use Rattle.kunz.specs.Private.{multiplesAsBits}
 use Rattle.kunz.proofs.Residues.{residue-mod}
 
 -- the multiples of m below n
@@ -23,7 +24,7 @@ pub record MultiplesFound (m bits at : ℕ) : Type 0 where
   pub multiple : at % m ≡ 0
   pub found : bits ≡ bitsFrom (multiplesBelow m at) 0
 
-module _ (m : ℕ) (pos : 0 < m) where
+module _ (m : ℕ) where
   -- none below 0
   pub multiples-none : MultiplesFound m 0 0
   multiples-none = record {
@@ -32,8 +33,8 @@ module _ (m : ℕ) (pos : 0 < m) where
   }
 
   -- of the m numbers from a multiple on, it alone is one
-  multiples-more : (at x : ℕ) → at % m ≡ 0 → (multiplesBelow m at x || eqb (0 + at) x) ≡ multiplesBelow m (at + m) x
-  multiples-more at x e = by-value (ltb x at) low high
+  multiples-more : (at x : ℕ) → 0 < m → at % m ≡ 0 → (multiplesBelow m at x || eqb (0 + at) x) ≡ multiplesBelow m (at + m) x
+  multiples-more at x pos e = by-value (ltb x at) low high
     where
       low : ltb x at ≡ true → (multiplesBelow m at x || eqb (0 + at) x) ≡ multiplesBelow m (at + m) x
       low l =
@@ -56,16 +57,16 @@ module _ (m : ℕ) (pos : 0 < m) where
           (λ q. let (r, h) = and-eq-true-iff _ _ .0 q in eq-eqb (0 + at) x (alone l (eqb-true (x % m) 0 r) (ltb-true x (at + m) h))))
 
   -- the next
-  pub multiples-next : (bits at : ℕ) → at < 64 → MultiplesFound m bits at → MultiplesFound m (bitOr bits (1 * 2 ^ at % 2 ^ 64)) (at + m)
-  multiples-next bits at h s = record {
+  pub multiples-next : (bits at : ℕ) → 0 < m → at < 64 → MultiplesFound m bits at → MultiplesFound m (bitOr bits (1 * 2 ^ at % 2 ^ 64)) (at + m)
+  multiples-next bits at pos h s = record {
     multiple = add-mod-right at m ∙ s .multiple;
     found =
         ap₂ bitOr (s .found) (one-shl at h ∙ bits-from-one 0 at h) ∙ bits-from-or (multiplesBelow m at) (eqb (0 + at)) 0
-        ∙ ap (λ (S : Set). bitsFrom S 0) (fun-ext (λ x. multiples-more at x (s .multiple)));
+        ∙ ap (λ (S : Set). bitsFrom S 0) (fun-ext (λ x. multiples-more at x pos (s .multiple)));
   }
 
   -- all below 64
-  pub multiples-all : (bits at : ℕ) → 64 ≤ at → MultiplesFound m bits at → bits ≡ bitsFrom (λ j. eqb (j % m) 0) 0
+  pub multiples-all : (bits at : ℕ) → 64 ≤ at → MultiplesFound m bits at → bits ≡ multiplesAsBits m
   multiples-all bits at h s =
       s .found ∙ bits-from-same (multiplesBelow m at) (λ j. eqb (j % m) 0) 0
       (λ x low high. ap (λ (b : Bool). eqb (x % m) 0 && b) (lt-ltb x at (omega arith)) ∙ and-true (eqb (x % m) 0))

@@ -1,7 +1,7 @@
 -- The gaps of a residue as bits: counted in a word they are its coordinate, and a list says so many for each place. Assumes nothing.
 use Prim.Native.Nat.{ℕ, suc, _+_, _*_, _/_, _%_, _^_, _≤_, _<_}
 use mathlib.Core.Path.{_≡_, refl, sym, ap, ap₂, _∙_, fun-ext}
-use mathlib.Core.Bool.{Bool, true, false, not, _||_, _&&_, and-false, and-eq-true-iff, Bool·not-not}
+use mathlib.Core.Bool.{Bool, true, false, not, _||_, _&&_, and-eq-true-iff, and-or-distrib-right, Bool·not-not}
 use mathlib.Core.List.{List}
 use native.Mathlib.Omega.{arith}
 use native.Mathlib.Nat.{zero-add, mod-lt, mod-eq-of-lt, mul-mod-right, mul-lt-mul-of-pos-left, lt-of-mul-lt-mul-left, mul-le-mul-right, one-mul, div-add-mod, lt-of-lt-of-le, lt-of-le-of-lt, div-le-self, le-dest}
@@ -15,19 +15,16 @@ use Rattle.words.specs.Sets.{Set, gapsTo}
 use Rattle.words.specs.Words.{bit, setOf, wordOf, closed}
 use Rattle.words.specs.Positions.{bitsFrom}
 use Rattle.words.specs.Elements.{multiplicity}
-use Rattle.words.proofs.Booleans.{not-both, by-value, true-together}
+use Rattle.words.proofs.Booleans.{by-value, true-together}
 use Rattle.words.proofs.Bits.{bit-and, bit-past, bit-shr, bit-shl, bit-shl-low, bit-mod, bit-low}
 use Rattle.words.proofs.Counting.{countBelow, count-same}
 use Rattle.words.proofs.StandingBits.{ones-count}
 use Rattle.words.proofs.BitSets.{bits-from-bit, bits-from-lt, bits-from-is, bits-from-none, bits-from-same, bits-from-or, word-bits}
 use Rattle.kunz.specs.Coordinates.{coordinate, modulus, entryAt, setSaid}
+use Rattle.kunz.specs.Private.{multiplesAsBits}
 use Rattle.kunz.proofs.Residues.{residue-mod, count-multiples, count-threshold}
 use Rattle.kunz.proofs.WordCoordinates.{coordinate-bound, element-from-coordinate}
 use Rattle.kunz.proofs.Said.{said-at}
-
--- the multiples of m below 64, as bits
-abbrev pub multiplesAsBits : ℕ → ℕ
-multiplesAsBits m = bitsFrom (λ j. eqb (j % m) 0) 0
 
 -- ---- counted in a word
 
@@ -64,6 +61,7 @@ coordinate-ones w fits c k h =
 -- ---- said by a list
 
 module _ (l : List ℕ) where
+  -- the m of the list
   abbrev m : ℕ
   m = modulus l
 
@@ -113,6 +111,7 @@ module _ (l : List ℕ) where
             lt-ltb i (m * x) (omega (arith, mul-lt-mul-of-pos-left {k = m} below (omega arith))),
           )
 
+  -- the same as bits
   residue-gaps : (k : ℕ) → k < length l
       → multiplesAsBits (modulus l) % 2 ^ (modulus l * getD l k 0) * 2 ^ k % 2 ^ 64 ≡ bitsFrom (gapsLeaving (suc k)) 1
   unfolding entryAt
@@ -140,7 +139,8 @@ module _ (l : List ℕ) where
       → bitOr word (multiplesAsBits (modulus l) % 2 ^ (modulus l * getD l k 0) * 2 ^ k % 2 ^ 64) ≡ bitsFrom (gapsLeavingTo (k + 1)) 1
   gaps-next word k h e =
       ap₂ bitOr e (residue-gaps k h) ∙ bits-from-or (gapsLeavingTo k) (gapsLeaving (suc k)) 1
-      ∙ ap (λ (S : Set). bitsFrom S 1) (fun-ext (λ y. either (leb (y % m) k) (eqb (y % m) (suc k)) (leb (y % m) (k + 1)) (not (setSaid l y)) (one-more (y % m))))
+      ∙ ap (λ (S : Set). bitsFrom S 1) (fun-ext (λ y.
+      sym (and-or-distrib-right (leb (y % m) k) (eqb (y % m) (suc k)) (not (setSaid l y))) ∙ ap (λ (b : Bool). b && not (setSaid l y)) (one-more (y % m))))
     where
       one-more : (r : ℕ) → (leb r k || eqb r (suc k)) ≡ leb r (k + 1)
       one-more r =
@@ -149,11 +149,6 @@ module _ (l : List ℕ) where
           (λ t. let past = leb-false r k t in rw t (true-together (eqb r (suc k)) (leb r (k + 1))
           (λ q. let same = eqb-true r (suc k) q in le-leb r (k + 1) (omega arith))
           (λ q. let low = leb-true r (k + 1) q in eq-eqb r (suc k) (omega arith))))
-
-      either : (a b c g : Bool) → (a || b) ≡ c → (a && g || b && g) ≡ (c && g)
-      either true b true g e = by-value g (λ t. rw t) (λ t. rw (t, and-false))
-      either true b false g e = absurd (not-both refl e)
-      either false b c g e = ap (λ (d : Bool). d && g) e
 
   -- those that leave at most m - 1 are all
   pub gaps-whole : (word : ℕ) → word ≡ bitsFrom (gapsLeavingTo (length l)) 1 → word ≡ wordOf (gapsTo (setSaid l) 64)

@@ -11,14 +11,15 @@ use Rattle.words.specs.Lists.{run, sumOver}
 use Rattle.words.specs.Words.{digit}
 use Rattle.words.proofs.Booleans.{not-both, by-value}
 use Rattle.words.proofs.Lists.{run-mem, run-last, sum-append, sum-none, sum-plus}
-use Rattle.words.proofs.Counting.{countBelow, count-in, count-out, count-same, count-le-length}
+use Rattle.words.proofs.Counting.{countBelow, count-in, count-out, count-same, count-none}
 
 -- ---- quotient and residue
 
--- m t + i, for i below m, has the quotient t and leaves i
+-- m t + i, for i below m, has the quotient t
 pub residue-div : (m t i : ℕ) → i < m → (m * t + i) / m ≡ t
 residue-div m t i h = omega (arith, mul-add-div {m = m} (omega arith) t i, div-eq-of-lt h)
 
+-- and leaves i
 pub residue-mod : (m t i : ℕ) → i < m → (m * t + i) % m ≡ i
 residue-mod m t i h = mul-add-mod-self-left m t i ∙ mod-eq-of-lt h
 
@@ -57,18 +58,17 @@ abbrev multiple : (ℕ → Bool) → ℕ → ℕ → Bool
 multiple p m j = p j && eqb (j % m) 0
 
 module _ (p : ℕ → Bool) (m : ℕ) where
-  -- at the multiples it is p, and at no other number it passes
+  -- at the multiples it is p
   multiple-at : (t : ℕ) → 0 < m → multiple p m (m * t + 0) ≡ p (m * t)
   multiple-at t h = rw (eq-eqb ((m * t + 0) % m) 0 (residue-mod m t 0 h), and-true, add-zero)
 
+  -- and at no other number it passes
   no-multiple : (i t : ℕ) → 0 < i → i < m → multiple p m (m * t + i) ≡ false
   no-multiple i t pos h = rw (ne-eqb ((m * t + i) % m) 0 (λ z. omega (arith, residue-mod m t i h))) (and-false (p (m * t + i)))
 
   -- so that none of residue i > 0 is counted
   none-between : (n i : ℕ) → 0 < i → i < m → countBelow (λ t. multiple p m (m * t + i)) n ≡ 0
-  none-between n i pos h =
-      let none = count-le-length (λ t. multiple p m (m * t + i)) n [] (λ t e. absurd (not-both e (no-multiple i t pos h))) in
-      omega arith
+  none-between n i pos h = count-none _ n (λ t e. not-both e (no-multiple i t pos h))
 
 -- the multiples of m that pass
 pub count-multiples : (p : ℕ → Bool) (m n : ℕ) → 0 < m → countBelow (λ j. p j && eqb (j % m) 0) (m * n) ≡ countBelow (λ t. p (m * t)) n

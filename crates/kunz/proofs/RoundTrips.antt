@@ -1,6 +1,7 @@
--- The word of given coordinates: which lists are refused, and that coordinates and words give back one another. Assumes nothing.
+-- The word of given coordinates: which lists are refused, that coordinates and words give back one another, and that the accepted lists say
+-- the numerical semigroups with at most 32 gaps, each once. Assumes nothing.
 use Prim.Native.Nat.{ℕ, suc, _*_, _^_, _≤_, _<_}
-use mathlib.Core.Path.{_≡_, sym, ap, ap₂, subst, _∙_, fun-ext}
+use mathlib.Core.Path.{_≡_, refl, sym, ap, ap₂, subst, _∙_, fun-ext}
 use mathlib.Core.Logic.{_↔_}
 use mathlib.Core.Bool.{Bool, true, false, not, _&&_, and-eq-true-iff}
 use mathlib.Core.List.{List, List·Memᴰ}
@@ -22,6 +23,7 @@ use Rattle.words.proofs.Words.{word-of-set, word-genus, gaps-to-list, gaps-of-w
 use Rattle.words.proofs.Counting.{countBelow, gaps-to-count, gap-bound, count-out, count-up, count-lt}
 use Rattle.words.proofs.Elements.{multiplicity-in, multiplicity-pos, multiplicity-least, multiplicity-le-genus}
 use Rattle.words.proofs.Closure.{closed-iff}
+use Rattle.words.proofs.GenusList.{genus-list-all}
 use Rattle.words.proofs.Answers.{first-no, second-no, third-no, all-yes, list-given, room}
 use Rattle.kunz.specs.Coordinates.{coordinate, kunzCoordinates, modulus, entryAt, inequalities, InequalitiesHold, setSaid, AcceptedCoordinates, coordinatesOf, wordFromCoordinatesOf}
 use Rattle.kunz.proofs.WordCoordinates.{coordinate-is, coordinates-number, coordinates-positive}
@@ -30,6 +32,7 @@ use Rattle.kunz.proofs.Said.{said-zero, said-modulus, said-below, said-
 -- ---- the set that a list says
 
 module _ (l : List ℕ) where
+  -- the sum of the entries
   abbrev total : ℕ
   total = sumOver (λ x. x) l
 
@@ -272,3 +275,27 @@ accepted-coordinates-iff l = (
       (word l, fits, h, e),
   λ (w, fits, h, e). subst AcceptedCoordinates e (given-coordinates-iff (kunzCoordinates w) w .0 (coordinates-give-word w fits h) .0),
 )
+
+-- two accepted lists that say the same set are equal
+pub said-unique : (k l : List ℕ) → AcceptedCoordinates k → AcceptedCoordinates l → ((x : ℕ) → setSaid k x ≡ setSaid l x) → k ≡ l
+said-unique k l a b same =
+    let (fits, said) = accepted-word k a in
+    let gives : (j : List ℕ) → AcceptedCoordinates j → ((x : ℕ) → setOf (word k) x ≡ setSaid j x) → kunzCoordinates (word k) ≡ j =
+    λ j c e. word-gives-coordinates j (word k) (given-coordinates-iff j (word k) .1 (c, fits, e)) .2 in
+    sym (gives k a said) ∙ gives l b (λ x. said x ∙ same x)
+
+-- of all sets: each numerical semigroup with at most 32 gaps is said by an accepted list
+pub semigroup-said : (S : Set) (g : ℕ) → NumericalSemigroup S → HasGenus S g → g ≤ 32
+    → (l : List ℕ) × AcceptedCoordinates l × ((x : ℕ) → setSaid l x ≡ S x)
+semigroup-said S g s genus-is few =
+    let listed = genus-list-all g few in
+    let (w, same, m) = listed .all S s genus-is in
+    let (fits, semigroup, own) = listed .only w m in
+    let h : Accepted w = record {
+      closed = closed-iff w fits .1 (semigroup .closed);
+      few = omega (arith, genus-unique (setOf w) (genus w) g (word-genus w fits) own);
+    } in (
+      kunzCoordinates w,
+      accepted-coordinates-iff (kunzCoordinates w) .1 (w, fits, h, refl),
+      λ x. said-coordinates w fits (h .closed) x ∙ same x,
+    )

@@ -20,7 +20,7 @@ use Rattle.words.proofs.Counting.{countBelow, count-same}
 use Rattle.words.proofs.Elements.{multiplicity-pos}
 use Rattle.kunz.specs.Coordinates.{CoordinateOf, coordinate, kunzCoordinates, modulus, entryAt, inequality, inequalities, InequalitiesHold, setSaid}
 use Rattle.kunz.proofs.Residues.{residue-div, residue-mod, count-residues, count-threshold}
-use Rattle.kunz.proofs.WordCoordinates.{coordinates-number, coordinate-zero, element-from-coordinate}
+use Rattle.kunz.proofs.WordCoordinates.{coordinates-number, coordinate-least, coordinate-zero, element-from-coordinate}
 
 -- an entry is at most the sum of all
 entry-le-sum : (l : List ℕ) (k : ℕ) → getD l k 0 ≤ sumOver (λ x. x) l
@@ -37,6 +37,7 @@ entry-pos (x ∷ l) zero e h = ltb-true 0 x (and-eq-true-iff (ltb 0 x) (every (l
 entry-pos (x ∷ l) (suc k) e h = entry-pos l k (and-eq-true-iff (ltb 0 x) (every (ltb 0) l) .0 e .1) (omega arith)
 
 module _ (l : List ℕ) where
+  -- its m, its entries and their sum
   abbrev m : ℕ
   m = modulus l
 
@@ -53,18 +54,20 @@ module _ (l : List ℕ) where
   unfolding setSaid
   said-at t i h = ap₂ (λ (r q : ℕ). leb (entry r) q) (residue-mod m t i h) (residue-div m t i h)
 
-  -- the same, each way, for a number given by its quotient and residue
+  -- the same for a number given by its quotient and residue
   said-in : {x : ℕ} (t i : ℕ) → m * t + i ≡ x → i < m → entry i ≤ t → setSaid l x ≡ true
   said-in t i e h k = ap (setSaid l) (sym e) ∙ said-at t i h ∙ le-leb (entry i) t k
 
+  -- and back
   in-said : {x : ℕ} (t i : ℕ) → m * t + i ≡ x → i < m → setSaid l x ≡ true → entry i ≤ t
   in-said t i e h s = leb-true (entry i) t (sym (said-at t i h) ∙ ap (setSaid l) e ∙ s)
 
-  -- 0 and m are elements
+  -- 0 is an element
   pub said-zero : setSaid l 0 ≡ true
   unfolding entryAt
   said-zero = said-in 0 0 (omega (arith, mul-zero m)) (omega arith) (omega arith)
 
+  -- and so is m
   pub said-modulus : setSaid l (modulus l) ≡ true
   unfolding entryAt
   said-modulus = said-in 1 0 (omega (arith, mul-suc m 0, mul-zero m)) (omega arith) (omega arith)
@@ -79,13 +82,8 @@ module _ (l : List ℕ) where
 
   -- the entry at i is the coordinate of the set
   pub said-coordinate : (i : ℕ) → i < modulus l → CoordinateOf (setSaid l) (modulus l) i (entryAt l i)
-  said-coordinate i h = record {
-    element = said-in (entry i) i refl h (le-refl (entry i));
-    residue = residue-mod m (entry i) i h;
-    least = λ a s r.
-        let parts : m * (a / m) + i ≡ a = omega (arith, div-add-mod a m) in
-        omega (arith, mul-le-mul-left m (in-said (a / m) i parts h s));
-  }
+  said-coordinate i h =
+      coordinate-least (setSaid l) m i (entry i) h (said-in (entry i) i refl h (le-refl (entry i))) (λ t s. in-said t i refl h s)
 
   -- ---- the inequalities
 

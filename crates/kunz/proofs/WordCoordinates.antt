@@ -35,7 +35,18 @@ coordinate-unique S m i x y pos c d =
     eq-of-mul-eq-mul-left m pos x y
     (omega (arith, c .least (m * y + i) (d .element) (d .residue), d .least (m * x + i) (c .element) (c .residue)))
 
+-- it is the least x with m x + i an element
+pub coordinate-least : (S : Set) (m i x : ℕ) → i < m → S (m * x + i) ≡ true → ((t : ℕ) → S (m * t + i) ≡ true → x ≤ t) → CoordinateOf S m i x
+coordinate-least S m i x h e least = record {
+  element = e;
+  residue = residue-mod m x i h;
+  least = λ a s r.
+      let parts : m * (a / m) + i ≡ a = omega (arith, div-add-mod a m) in
+      omega (arith, mul-le-mul-left m (least (a / m) (ap S parts ∙ s)));
+}
+
 module _ (w : ℕ) (fits : w < 2 ^ 64) where
+  -- the multiplicity
   abbrev m : ℕ
   m = multiplicity w
 
@@ -65,16 +76,8 @@ module _ (w : ℕ) (fits : w < 2 ^ 64) where
   -- at each i below m there is one, since 65 m + i is an element
   coordinate-found : (i : ℕ) → i < m → (x : ℕ) × CoordinateOf (setOf w) m i x
   coordinate-found i h =
-      let (x, low, e, least) = least-of (λ t. setOf w (m * t + i)) 65 (element-past w 64 (m * 65 + i) fits (omega (arith, multiplicity-pos w fits))) in (
-        x,
-        record {
-          element = e;
-          residue = residue-mod m x i h;
-          least = λ a s r.
-              let parts : m * (a / m) + i ≡ a = omega (arith, div-add-mod a m) in
-              omega (arith, mul-le-mul-left m (least (a / m) (ap (setOf w) parts ∙ s)));
-        },
-      )
+      let (x, low, e, least) = least-of (λ t. setOf w (m * t + i)) 65 (element-past w 64 (m * 65 + i) fits (omega (arith, multiplicity-pos w fits))) in
+      (x, coordinate-least (setOf w) m i x h e least)
 
   -- m x + i, with x the coordinate at i, is the least element that leaves i
   pub coordinate-of : (i : ℕ) → i < multiplicity w → CoordinateOf (setOf w) (multiplicity w) i (coordinate w i)
@@ -87,11 +90,7 @@ module _ (w : ℕ) (fits : w < 2 ^ 64) where
   unfolding setOf
   coordinate-zero =
       let none : m * 0 + 0 ≡ 0 = omega (arith, mul-zero m) in
-      coordinate-is 0 0 (multiplicity-pos w fits) (record {
-        element = ap (setOf w) none;
-        residue = residue-mod m 0 0 (multiplicity-pos w fits);
-        least = λ a s r. omega arith;
-      })
+      coordinate-is 0 0 (multiplicity-pos w fits) (coordinate-least (setOf w) m 0 0 (multiplicity-pos w fits) (ap (setOf w) none) (λ t e. omega arith))
 
   -- the numbers below m but 0 are gaps, so that the others are positive
   pub coordinate-positive : (i : ℕ) → 0 < i → i < multiplicity w → 0 < coordinate w i

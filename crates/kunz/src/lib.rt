@@ -7,10 +7,9 @@ ghost use lib.ListN.{length};
 ghost use Rattle.words.specs.Lists.{sumOver, fronted};
 ghost use Rattle.words.specs.Sets.{gapsTo};
 ghost use Rattle.words.specs.Words.{closed, genus, wordOf};
-ghost use Rattle.words.specs.Positions.{bitsFrom};
 ghost use Rattle.words.specs.Answers.{answered, listed};
 ghost use Rattle.kunz.specs.Coordinates.{kunzCoordinates, setSaid, coordinatesOf, wordFromCoordinatesOf};
-ghost use Rattle.kunz.specs.Private.{AcceptedWithMultiplicity};
+ghost use Rattle.kunz.specs.Private.{AcceptedWithMultiplicity, multiplesAsBits};
 use words::LookAnswer;
 use words::NumberAnswer;
 use words::Refusal;
@@ -18,7 +17,7 @@ use words::Refusal;
 // The multiples of `m` as bits: bit j stands where m divides j.
 fn multiples(m: u64) -> u64
     requires { ⌜ (0 < m) × (m ≤ 65) ⌝ }
-    ensures { λ r. ⌜ r ≡ bitsFrom (λ j. eqb (j % m) 0) 0 ⌝ }
+    ensures { λ r. ⌜ r ≡ multiplesAsBits m ⌝ }
 {
     let mut bits: u64 = 0;
     let mut at: u64 = 0;

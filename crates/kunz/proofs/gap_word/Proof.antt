@@ -7,7 +7,8 @@ use lib.ListN.{length, getD}
 use lib.Bits.{bitOr}
 use Rattle.words.specs.Positions.{bitsFrom}
 use Rattle.kunz.specs.Coordinates.{modulus}
-use Rattle.kunz.proofs.ResidueBits.{multiplesAsBits, gapsLeavingTo, gaps-none, gaps-next, gaps-whole}
+use Rattle.kunz.specs.Private.{multiplesAsBits}
+use Rattle.kunz.proofs.ResidueBits.{gapsLeavingTo, gaps-none, gaps-next, gaps-whole}
 use Rattle.kunz.proofs.gap_word.Statement.{statement}
 use Rattle.kunz.proofs.gap_word.Tie as tie
 

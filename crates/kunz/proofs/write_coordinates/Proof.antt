@@ -14,9 +14,10 @@ use Rattle.words.proofs.Lists.{fronted-next}
 use Rattle.words.proofs.Elements.{multiplicity-pos}
 use Rattle.words.proofs.Operations.{multiplicity-le}
 use Rattle.kunz.specs.Coordinates.{kunzCoordinates, entryAt}
+use Rattle.kunz.specs.Private.{multiplesAsBits}
 use Rattle.kunz.proofs.Said.{entry-coordinates}
 use Rattle.kunz.proofs.WordCoordinates.{coordinates-number}
-use Rattle.kunz.proofs.ResidueBits.{multiplesAsBits, coordinate-ones}
+use Rattle.kunz.proofs.ResidueBits.{coordinate-ones}
 use Rattle.kunz.proofs.write_coordinates.Statement.{statement}
 use Rattle.kunz.proofs.write_coordinates.Tie as tie
 
