@@ -1,22 +1,20 @@
 -- The number of elementary semigroups of genus g with the largest gap F (corollary 4 of source 002). Assumes nothing.
 use Prim.Native.Nat.{ℕ, _+_, _-_, _*_, _/_, _≤_, _<_}
-use mathlib.Core.Path.{_≡_, sym, _∙_, ap, subst, subst₂, fun-ext}
+use mathlib.Core.Path.{_≡_, sym, _∙_, ap, subst, subst₂}
 use mathlib.Core.Logic.{_↔_}
 use mathlib.Core.Bool.{true, and-eq-true-iff}
 use mathlib.Core.List.{List, map, List·Memᴰ, Memᴰ·map, Memᴰ·of-map, Memᴰ·cast}
 use native.Mathlib.Omega.{arith}
-use native.Mathlib.Nat.{ℕ-set}
 use lib.Dec.{leb, ltb}
 use lib.ListN.{length, length-map}
 use borrow.Author.Tests.{leb-true, le-leb, ltb-true, lt-ltb}
-use Rattle.words.specs.Sets.{Set}
 use Rattle.words.specs.Words.{gaps, genus, wordOf}
 use Rattle.words.specs.GenusList.{genusList, Before, Earlier}
 use Rattle.words.proofs.Booleans.{not-both, by-value}
-use Rattle.words.proofs.Lists.{nothing, keep-mem, mem-keep, ordered-keep, ordered-map, ordered-once, ordered-unique}
+use Rattle.words.proofs.Lists.{nothing, keep-mem, mem-keep, ordered-keep, ordered-map, ordered-unique}
 use Rattle.words.proofs.Words.{GapList, word-lt, gaps-of-word, word-of-gaps}
 use Rattle.words.proofs.Closure.{closed-iff}
-use Rattle.words.proofs.GenusList.{genus-list-mem, mem-genus-list, genus-list-sound, genus-list-complete, genus-list-ordered, earlier-asym}
+use Rattle.words.proofs.GenusList.{genus-list-mem, mem-genus-list, genus-list-ordered, earlier-asym, kept-all}
 use Rattle.words.specs.Answers.{given}
 use Rattle.elementary.specs.Elementary.{IsElementary, elementary, elementaryList, elementaryCount, AllElementary, binomial, inRange, formula}
 use Rattle.elementary.specs.Answers.{elementaryOf}
@@ -65,19 +63,7 @@ module _ (F g : ℕ) (small : g ≤ 32) where
   -- the list has all such semigroups, as sets of whole numbers, and no other, each once
   pub elementary-list-all : AllElementary F g (elementaryList F g)
   unfolding elementaryList
-  elementary-list-all =
-      let ordered = ordered-keep Earlier (elementary F) (genusList g) (genus-list-ordered g) in
-      record {
-        only = λ w m.
-            let (i, t) = keep-mem (elementary F) (genusList g) m in
-            let (fits, s, o) = genus-list-sound g i in
-            (fits, s, o, elementary-iff F w fits .0 t);
-        all = λ S s o e.
-            let (w, fits, same, i) = genus-list-complete S g s o small in
-            (w, same, mem-keep (elementary F) (genusList g) i (elementary-iff F w fits .1 (subst (λ (T : Set). IsElementary T F) (sym (fun-ext same)) e)));
-        ordered = ordered;
-        once = ordered-once Earlier earlier-asym ℕ-set (elementaryList F g) ordered;
-      }
+  elementary-list-all = kept-all g small (λ S. IsElementary S F) (elementary F) (elementary-iff F)
 
   -- for F from g to 2 g - 1 their number is the binomial
   pub count-inside : g ≤ F → F < 2 * g → elementaryCount F g ≡ binomial ((F + 1) / 2 - 1) (F - g)

@@ -289,8 +289,9 @@ pub semigroup-said : (S : Set) (g : ℕ) → NumericalSemigroup S → HasGenus S
     → (l : List ℕ) × AcceptedCoordinates l × ((x : ℕ) → setSaid l x ≡ S x)
 semigroup-said S g s genus-is few =
     let listed = genus-list-all g few in
-    let (w, same, m) = listed .all S s genus-is in
-    let (fits, semigroup, own) = listed .only w m in
+    let (w, same, m) = listed .all S (s, genus-is) in
+    let fits = listed .fits w m in
+    let (semigroup, own) = listed .only w m in
     let h : Accepted w = record {
       closed = closed-iff w fits .1 (semigroup .closed);
       few = omega (arith, genus-unique (setOf w) (genus w) g (word-genus w fits) own);

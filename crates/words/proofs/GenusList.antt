@@ -1,16 +1,16 @@
 -- The genus list of g holds the words of the numerical semigroups of genus g, each once and in list order. Assumes nothing.
 use Prim.Native.Nat.{ℕ, zero, suc, _-_, _^_, _≤_, _<_}
 use mathlib.Core.Path.{_≡_, refl, sym, _∙_, ap, subst, subst₂, fun-ext}
-use mathlib.Core.Logic.{inl, inr}
-use mathlib.Core.Bool.{true, false}
+use mathlib.Core.Logic.{_↔_, inl, inr}
+use mathlib.Core.Bool.{Bool, true, false}
 use mathlib.Core.List.{List, [], _∷_, _++_, map, List·Memᴰ, List·Memᴰ·head, List·Memᴰ·eq-of-singleton, Memᴰ·map, Memᴰ·of-map, Memᴰ·cast}
 use native.Mathlib.Omega.{arith}
 use native.Mathlib.Nat.{ℕ-set}
 use lib.ListN.{length}
-use Rattle.words.specs.Lists.{run, Ordered}
+use Rattle.words.specs.Lists.{run, keep, Ordered}
 use Rattle.words.specs.Sets.{Set, NumericalSemigroup, GapsOf, HasGenus}
 use Rattle.words.specs.Words.{setOf, gaps, genus, wordOf, closed}
-use Rattle.words.specs.GenusList.{risings, genusList, Before, Earlier, AllOfGenus}
+use Rattle.words.specs.GenusList.{risings, genusList, Before, Earlier, AllOf, AllOfGenus}
 use Rattle.words.proofs.Booleans.{not-both}
 use Rattle.words.proofs.Lists.{rising-nil, rising-cons, rising-tail, run-mem, mem-run, keep-mem, mem-keep, joined-mem, mem-joined, ordered-run, ordered-one, ordered-keep, ordered-joined, ordered-map, ordered-once, ordered-unique}
 use Rattle.words.proofs.Sets.{gaps-unique, same-of-gaps}
@@ -160,18 +160,37 @@ genus-list-once g = ordered-once Earlier earlier-asym ℕ-set (genusList g) (gen
 
 pub genus-list-all : (g : ℕ) → g ≤ 32 → AllOfGenus g (genusList g)
 genus-list-all g h = record {
-  only = λ w m. genus-list-sound g m;
-  all = λ S s o. let (w, fits, same, m) = genus-list-complete S g s o h in (w, same, m);
+  fits = λ w m. genus-list-sound g m .0;
+  only = λ w m. let (fits, s, o) = genus-list-sound g m in (s, o);
+  all = λ S (s, o). let (w, fits, same, m) = genus-list-complete S g s o h in (w, same, m);
   ordered = genus-list-ordered g;
   once = genus-list-once g;
 }
 
--- and any list of them is the genus list
+-- and any list of all semigroups of the genus is the genus list
 pub genus-list-unique : (g : ℕ) (l : List ℕ) → AllOfGenus g l → l ≡ genusList g
 genus-list-unique g l a =
     ordered-unique Earlier earlier-asym l (genusList g) (a .ordered) (genus-list-ordered g)
-    (λ w m. let (fits, s, o) = a .only w m in genus-list-word g w fits s o)
+    (λ w m. let (s, o) = a .only w m in genus-list-word g w (a .fits w m) s o)
     (λ w m.
     let (fits, s, o) = genus-list-sound g m in
-    let (v, same, n) = a .all (setOf w) s o in
-    Memᴰ·cast (same-set w v fits (a .only v n .0) (λ x. sym (same x))) n)
+    let (v, same, n) = a .all (setOf w) (s, o) in
+    Memᴰ·cast (same-set w v fits (a .fits v n) (λ x. sym (same x))) n)
+
+-- those of its words that pass a test of what P says are the list of all that have P too
+pub kept-all : (g : ℕ) → g ≤ 32 → (P : Set → Type 0) (p : ℕ → Bool) → ((w : ℕ) → w < 2 ^ 64 → (p w ≡ true) ↔ P (setOf w))
+    → AllOf (λ S. NumericalSemigroup S × HasGenus S g × P S) (keep p (genusList g))
+kept-all g h P p test =
+    let ordered = ordered-keep Earlier p (genusList g) (genus-list-ordered g) in
+    record {
+      fits = λ w m. genus-list-sound g (keep-mem p (genusList g) m .0) .0;
+      only = λ w m.
+          let (i, t) = keep-mem p (genusList g) m in
+          let (fits, s, o) = genus-list-sound g i in
+          (s, o, test w fits .0 t);
+      all = λ S (s, o, e).
+          let (w, fits, same, i) = genus-list-complete S g s o h in
+          (w, same, mem-keep p (genusList g) i (test w fits .1 (subst P (sym (fun-ext same)) e)));
+      ordered = ordered;
+      once = ordered-once Earlier earlier-asym ℕ-set (keep p (genusList g)) ordered;
+    }

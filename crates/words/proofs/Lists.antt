@@ -13,7 +13,7 @@ use lib.ListN.{length, getD, take, drop, set, replicate, length-append, length-t
 use lib.Pow.{pow-mono}
 use lib.Seq.{take-append-seam, drop-append-seam, set-append-seam, drop-cons, drop-append-add, drop-drop, take-suc, sets}
 use borrow.Author.Tests.{eq-eqb, ne-eqb, eqb-true, ltb-true, ltb-false, lt-ltb}
-use Rattle.words.specs.Lists.{run, keep, keepIf, every, joined, sumOver, lastOr, begins, fronted, onFrom, Ordered}
+use Rattle.words.specs.Lists.{none, run, keep, keepIf, every, joined, sumOver, lastOr, begins, fronted, onFrom, Ordered}
 use Rattle.words.proofs.Booleans.{not-both, is-false, by-value, not-and}
 
 -- ---- run
@@ -73,6 +73,16 @@ module _ {A : Type 0} where
   pub nothing : (l : List A) → ((x : A) → List·Memᴰ x l → ⊥) → l ≡ []
   nothing [] h = refl
   nothing (x ∷ l) h = absurd (h x (List·Memᴰ·head refl))
+
+  -- so is one of length 0
+  pub no-length : (l : List A) → length l ≡ 0 → l ≡ []
+  no-length [] e = refl
+  no-length (x ∷ l) e = absurd (omega arith)
+
+  pub none-iff : (l : List A) → (none l ≡ true) ↔ (length l ≡ 0)
+  unfolding none
+  none-iff [] = (λ e. refl, λ e. refl)
+  none-iff (x ∷ l) = (λ e. absurd (not-both e refl), λ e. absurd (omega arith))
 
   -- ---- keep
 

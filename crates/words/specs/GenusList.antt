@@ -35,9 +35,14 @@ Before (x ∷ l) (y ∷ m) = (x < y) ⊎ ((x ≡ y) × Before l m)
 abbrev pub Earlier : ℕ → ℕ → Type 0
 Earlier v w = Before (gaps v) (gaps w)
 
--- l has the words of all numerical semigroups of genus g and no other, in list order, each exactly once
-pub record AllOfGenus (g : ℕ) (l : List ℕ) : Type 0 where
-  pub only : (w : ℕ) → List·Memᴰ w l → (w < 2 ^ 64) × NumericalSemigroup (setOf w) × HasGenus (setOf w) g
-  pub all : (S : Set) → NumericalSemigroup S → HasGenus S g → (w : ℕ) × ((x : ℕ) → setOf w x ≡ S x) × List·Memᴰ w l
+-- l has the words of all sets with P and no other, in list order, each exactly once
+pub record AllOf (P : Set → Type 0) (l : List ℕ) : Type 0 where
+  pub fits : (w : ℕ) → List·Memᴰ w l → w < 2 ^ 64
+  pub only : (w : ℕ) → List·Memᴰ w l → P (setOf w)
+  pub all : (S : Set) → P S → (w : ℕ) × ((x : ℕ) → setOf w x ≡ S x) × List·Memᴰ w l
   pub ordered : Ordered Earlier l
   pub once : (w : ℕ) (i j : List·Memᴰ w l) → i ≡ j
+
+-- l has the words of all numerical semigroups of genus g and no other, in list order, each exactly once
+abbrev pub AllOfGenus : ℕ → List ℕ → Type 0
+AllOfGenus g = AllOf (λ S. NumericalSemigroup S × HasGenus S g)

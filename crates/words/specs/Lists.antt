@@ -5,6 +5,11 @@ use mathlib.Core.List.{List, [], _∷_, _++_, List·Memᴰ}
 use lib.Dec.{eqb}
 use lib.ListN.{length, drop}
 
+-- a list with nothing in it
+unfoldable pub none : {A : Type 0} → List A → Bool
+none [] = true
+none (x ∷ l) = false
+
 -- n numbers in a row, from a on
 unfoldable pub run : ℕ → ℕ → List ℕ
 run a zero = []

@@ -1,0 +1,69 @@
+-- What tests keep of a list: tests that agree on it, that all or none pass, and the parts of a list that two tests keep. Assumes nothing.
+use mathlib.Core.Path.{_≡_, refl, sym, _∙_, ap, ap₂}
+use mathlib.Core.Bool.{Bool, true, false, _||_}
+use mathlib.Core.List.{List, [], _∷_, _++_, List·Memᴰ, List·Memᴰ·head, List·Memᴰ·tail}
+use Prim.Native.Nat.{ℕ}
+use lib.Dec.{eqb}
+use borrow.Author.Tests.{eq-eqb, eqb-true, ne-eqb}
+use Rattle.words.specs.Lists.{keep, keepIf, onFrom, Ordered}
+use Rattle.words.proofs.Booleans.{not-both, by-value}
+use Rattle.words.proofs.Lists.{nothing, keep-mem, keep-in, keep-out}
+
+module _ {A : Type 0} where
+  -- two tests that agree on a list keep the same of it
+  pub keep-same : (p q : A → Bool) (l : List A) → ((x : A) → List·Memᴰ x l → p x ≡ q x) → keep p l ≡ keep q l
+  unfolding keep
+  keep-same p q [] h = refl
+  keep-same p q (x ∷ l) h = ap₂ (λ (b : Bool) (k : List A). keepIf b x k) (h x (List·Memᴰ·head refl)) (keep-same p q l (λ y m. h y (List·Memᴰ·tail m)))
+
+  -- a test that all pass keeps the list
+  pub keep-all : (p : A → Bool) (l : List A) → ((x : A) → List·Memᴰ x l → p x ≡ true) → keep p l ≡ l
+  unfolding keep
+  keep-all p [] h = refl
+  keep-all p (x ∷ l) h = keep-in p x l (h x (List·Memᴰ·head refl)) ∙ ap (λ (k : List A). x ∷ k) (keep-all p l (λ y m. h y (List·Memᴰ·tail m)))
+
+  -- a test that none pass keeps nothing
+  pub keep-none : (p : A → Bool) (l : List A) → ((x : A) → List·Memᴰ x l → p x ≡ false) → keep p l ≡ []
+  keep-none p l h = nothing (keep p l) (λ x m. let (i, e) = keep-mem p l m in not-both e (h x i))
+
+  -- where none that pass p come after one that passes q, or are one, those that pass p or q are the ones and then the others
+  pub keep-apart : (p q r : A → Bool) (l : List A) → ((x : A) → r x ≡ (p x || q x)) → ((x : A) → q x ≡ true → p x ≡ false)
+      → Ordered (λ x y. q x ≡ true → p y ≡ false) l → keep r l ≡ keep p l ++ keep q l
+  unfolding keep Ordered
+  keep-apart p q r [] either not-one o = refl
+  keep-apart p q r (x ∷ l) either not-one o =
+      by-value (q x)
+      (λ e.
+      let none : keep p (x ∷ l) ≡ [] = keep-out p x l (not-one x e) ∙ keep-none p l (λ y m. o .0 y m e) in
+      keep-in r x l (either x ∙ rw (e, not-one x e))
+      ∙ ap (λ (k : List A). x ∷ k) (keep-same r q l (λ y m. either y ∙ rw (o .0 y m e)))
+      ∙ sym (ap₂ _++_ none (keep-in q x l e)))
+      (λ e.
+      by-value (p x)
+      (λ f.
+      keep-in r x l (either x ∙ rw f) ∙ ap (λ (k : List A). x ∷ k) (keep-apart p q r l either not-one (o .1))
+      ∙ sym (ap₂ _++_ (keep-in p x l f) (keep-out q x l e)))
+      (λ f.
+      keep-out r x l (either x ∙ rw (e, f)) ∙ keep-apart p q r l either not-one (o .1)
+      ∙ sym (ap₂ _++_ (keep-out p x l f) (keep-out q x l e))))
+
+  -- in a list ordered by R the member that none comes before is the first
+  pub ordered-first : (R : A → A → Type 0) (l : List A) {x : A} → Ordered R l → List·Memᴰ x l → ((y : A) → List·Memᴰ y l → R y x → ⊥)
+      → (t : List A) × (l ≡ x ∷ t)
+  unfolding Ordered
+  ordered-first R (y ∷ l) o (List·Memᴰ·head e) first = (l, ap (λ (z : A). z ∷ l) (sym e))
+  ordered-first R (y ∷ l) {x} o (List·Memᴰ·tail m) first = absurd (first y (List·Memᴰ·head refl) (o .0 x m))
+
+-- from a number that passes on, the test keeps what it keeps from it on
+pub on-from-keep : (p : ℕ → Bool) (x : ℕ) (l : List ℕ) → p x ≡ true → onFrom x (keep p l) ≡ keep p (onFrom x l)
+unfolding onFrom keep
+on-from-keep p x [] e = refl
+on-from-keep p x (y ∷ l) e =
+    by-value (eqb x y)
+    (λ same.
+    let passes : p y ≡ true = sym (ap p (eqb-true x y same)) ∙ e in
+    rw (same, keep-in p y l passes, same))
+    (λ other.
+    by-value (p y)
+    (λ passes. rw (keep-in p y l passes, other) (on-from-keep p x l e))
+    (λ fails. rw (keep-out p y l fails, other) (on-from-keep p x l e)))
