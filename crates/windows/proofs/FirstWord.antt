@@ -1,0 +1,121 @@
+-- The first word of a window: its gaps are the first numbers that the window's largest multiplicity does not divide. Assumes nothing.
+use Prim.Native.Nat.{ℕ, zero, suc, _+_, _*_, _/_, _%_, _≤_, _<_, min}
+use mathlib.Core.Path.{_≡_, refl, sym, _∙_, ap, ap₂, subst}
+use mathlib.Core.Logic.{_⊎_, inr, ⊎-elim}
+use mathlib.Core.Bool.{Bool, true, false, not}
+use mathlib.Core.List.{List, [], _∷_, List·Memᴰ, List·Memᴰ·head, List·Memᴰ·tail}
+use native.Mathlib.Omega.{arith}
+use native.Mathlib.Nat.{mod-one, div-add-mod, le-antisymm, lt-of-not-le}
+use lib.Dec.{eqb}
+use lib.ListN.{length, take}
+use borrow.Author.Tests.{ne-eqb, eqb-true, eqb-false, le-leb, lt-leb}
+use Rattle.words.specs.Lists.{none, run, keep}
+use Rattle.words.specs.Words.{setOf, gaps, genus, wordOf, closed}
+use Rattle.words.specs.Elements.{multiplicity}
+use Rattle.words.specs.GenusList.{Before, Earlier}
+use Rattle.words.specs.Answers.{refused, given}
+use Rattle.words.proofs.Booleans.{not-both, by-value}
+use Rattle.words.proofs.Lists.{nothing, keep-in, keep-out, Rising, rising-cons, rising-tail, rising-from}
+use Rattle.words.proofs.Kept.{ordered-first}
+use Rattle.words.proofs.Sets.{multiples-in}
+use Rattle.words.proofs.Words.{gaps-list, gaps-mem, gaps-of-word}
+use Rattle.words.proofs.Closure.{closed-iff}
+use Rattle.words.proofs.Elements.{multiplicity-in, multiplicity-pos, multiplicity-le-genus}
+use Rattle.words.proofs.GenusList.{WordOfGenus}
+use Rattle.windows.specs.Windows.{windowList, notDivided}
+use Rattle.windows.specs.Answers.{firstIn, firstOf}
+use Rattle.windows.proofs.Falling.{earlier-multiplicity}
+use Rattle.windows.proofs.Windows.{window-mem, mem-window, window-ordered}
+use Rattle.windows.proofs.NotDivided.{free, freeTo, divided-list, divided-fits, divided-genus, divided-multiplicity, enough-for}
+
+-- no rising list of numbers that pass a test comes before as many of the first that pass
+first-kept : (p : ℕ → Bool) {hi : ℕ} (a n : ℕ) (l : List ℕ) → Rising a hi l → ((x : ℕ) → List·Memᴰ x l → p x ≡ true)
+    → Before l (take (length l) (keep p (run a n))) → ⊥
+unfolding Before run keep
+first-kept p a n [] r h b = b
+first-kept p a zero (x ∷ l) r h b = b
+first-kept p a (suc n) (x ∷ l) r h b =
+    let (low, high) = r .within x (List·Memᴰ·head refl) in
+    by-value (p a)
+    (λ e.
+    ⊎-elim (λ k. omega arith)
+    (λ (k, c). first-kept p (suc a) n l (rising-from (omega arith) (rising-tail r)) (λ y m. h y (List·Memᴰ·tail m)) c)
+    (subst (λ (k : List ℕ). Before (x ∷ l) (take (length (x ∷ l)) k)) (keep-in p a (run (suc a) n) e) b))
+    (λ e.
+    first-kept p (suc a) n (x ∷ l) (rising-cons (above low (λ k. not-both (ap p k ∙ h x (List·Memᴰ·head refl)) e)) high (rising-tail r)) h
+    (subst (λ (k : List ℕ). Before (x ∷ l) (take (length (x ∷ l)) k)) (keep-out p a (run (suc a) n) e) b))
+  where
+    above : {y z : ℕ} → y ≤ z → (y ≡ z → ⊥) → y < z
+    above h k = lt-of-not-le (λ l. k (le-antisymm h l))
+
+-- ---- windows
+
+-- no gap is a multiple of the multiplicity
+gap-free : (g w : ℕ) → WordOfGenus g w → (x : ℕ) → List·Memᴰ x (gaps w) → x % multiplicity w ≡ 0 → ⊥
+unfolding setOf
+gap-free g w o x i e =
+    let m : ℕ = multiplicity w in
+    let multiple : m * (x / m) ≡ x = omega (arith, div-add-mod x m) in
+    not-both (multiples-in (setOf w) refl (closed-iff w (o .fits) .0 (o .closed)) m (multiplicity-in w (o .fits)) (x / m))
+    (ap (setOf w) multiple ∙ gaps-mem w i)
+
+-- so that only genus 0 has multiplicity 1
+multiplicity-low : (g w : ℕ) → WordOfGenus g w → suc (min g 1) ≤ multiplicity w
+unfolding genus
+multiplicity-low zero w o = omega (arith, multiplicity-pos w (o .fits))
+multiplicity-low (suc g) w o =
+    lt-of-not-le (λ l.
+    let one : multiplicity w ≡ 1 = omega (arith, multiplicity-pos w (o .fits)) in
+    let none : gaps w ≡ [] = nothing (gaps w) (λ x i. gap-free (suc g) w o x i (ap (λ (k : ℕ). x % k) one ∙ mod-one x)) in
+    omega (arith, o .gapped, ap length none))
+
+-- the first word of a window: of the words with its largest multiplicity m, none has gaps before the first numbers that m does not divide
+pub window-first : (g lo hi m : ℕ) → g ≤ 32 → m ≡ min hi (g + 1) → lo ≤ m → suc (min g 1) ≤ m → (l : List ℕ) × (windowList g lo hi ≡ wordOf (notDivided g m) ∷ l)
+unfolding notDivided genus
+window-first g lo hi m h e low two =
+    let (k, enough) = enough-for g m h two (omega arith) in
+    let w : ℕ = wordOf (notDivided g m) in
+    let same = divided-multiplicity g m k enough in
+    ordered-first Earlier (windowList g lo hi) (window-ordered g lo hi)
+    (mem-window g lo hi w (divided-genus g m k enough) (omega arith) (omega arith))
+    (λ v i b.
+    let (o, from, to) = window-mem g lo hi i in
+    let most : multiplicity v ≡ m = omega (arith, multiplicity-le-genus v (o .fits), o .gapped, earlier-multiplicity v w (o .fits) (divided-fits g m k enough) b) in
+    first-kept (free m) 1 64 (gaps v) (gaps-list v) (λ x j. ap not (ne-eqb (x % m) 0 (λ z. gap-free g v o x j (ap (λ (n : ℕ). x % n) most ∙ z))))
+    (subst (Before (gaps v)) (gaps-of-word (notDivided g m) (divided-list g m k enough) ∙ ap (λ (n : ℕ). take n (freeTo m 64)) (sym (o .gapped))) b))
+
+-- a window with no multiplicity that a semigroup of genus g can have holds none
+pub window-none : (g lo hi : ℕ) → (min hi (g + 1) < lo) ⊎ (min hi (g + 1) < suc (min g 1)) → windowList g lo hi ≡ []
+window-none g lo hi h =
+    nothing (windowList g lo hi) (λ v i.
+    let (o, from, to) = window-mem g lo hi i in
+    let most = multiplicity-le-genus v (o .fits) in
+    ⊎-elim (λ k. omega (arith, o .gapped)) (λ k. omega (arith, o .gapped, multiplicity-low g v o)) h)
+
+-- ---- what the call answers
+
+-- refused above genus 32
+pub first-refused : (g lo hi : ℕ) → 32 < g → firstOf g lo hi ≡ refused 3
+unfolding firstOf
+first-refused g lo hi h = simp (lt-leb g 32 h)
+
+-- a window that holds none
+pub first-none : (g lo hi : ℕ) → g ≤ 32 → (min hi (g + 1) < lo) ⊎ (min hi (g + 1) < suc (min g 1)) → firstOf g lo hi ≡ given record { word = 0; empty = true }
+unfolding firstOf firstIn none
+first-none g lo hi h k = simp (le-leb g 32 h, window-none g lo hi k)
+
+-- a window that holds a word
+pub first-given : (g lo hi m : ℕ) → g ≤ 32 → m ≡ min hi (g + 1) → lo ≤ m → suc (min g 1) ≤ m
+    → firstOf g lo hi ≡ given record { word = wordOf (notDivided g m); empty = false }
+unfolding firstOf firstIn none
+first-given g lo hi m h e low two = let (l, s) = window-first g lo hi m h e low two in simp (le-leb g 32 h, s)
+
+-- genus 0 has the word 0 alone, of multiplicity 1
+pub first-zero : (g lo hi m : ℕ) → g ≡ 0 → m ≡ min hi (g + 1) → lo ≤ m → firstOf g lo hi ≡ given record { word = 0; empty = eqb m 0 }
+unfolding notDivided wordOf
+first-zero g lo hi m zero-genus e low =
+    by-value (eqb m 0)
+    (λ f. first-none g lo hi (omega arith) (inr (omega (arith, eqb-true m 0 f))) ∙ ap (λ (b : Bool). given record { word = 0; empty = b }) (sym f))
+    (λ f.
+    first-given g lo hi m (omega arith) e low (omega (arith, eqb-false m 0 f))
+    ∙ ap₂ (λ (n : ℕ) (b : Bool). given record { word = wordOf (notDivided n m); empty = b }) zero-genus (sym f))

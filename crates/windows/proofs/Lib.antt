@@ -1,0 +1,5 @@
+pub mod Falling
+pub mod Windows
+pub mod NotDivided
+pub mod FirstWord
+pub mod Cases
