@@ -15,8 +15,8 @@ use Rattle.tables.specs.Answers.{tableOf, childOf}
 use Rattle.tables.proofs.Cases.{known-tables, known-children, no-child-at-32}
 use Rattle.walk.specs.declared.Walk.{Walk}
 use Rattle.walk.specs.Walks.{freshOf}
-use Rattle.walk.specs.Demand3.{atlas, batches}
-use Rattle.walk.proofs.Cases.{answerAndList, genus-four}
+use Rattle.demands.specs.Demand3.{atlas, batches}
+use Rattle.demands.proofs.Cases.{answerAndList, genus-four}
 use Rattle.generators.specs.Generators.{minimalGenerators, generatorsOf, wordFromOf}
 use Rattle.generators.proofs.Cases.{known-generators, known-words}
 use Rattle.elementary.specs.Answers.{elementaryOf}

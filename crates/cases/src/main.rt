@@ -1,7 +1,10 @@
-// Runs further cases of the papers on gap words, seed tables and children, and prints what the calls answer. What it prints is held to the
-// stored file: the tables of the descendants of example 1.4 worked by hand by lemma 3.1, the rest computed apart from the plain
-// definitions. The marked cases are proved: proofs/Marked.antt.
+// Runs further cases of the papers on gap words, seed tables, children and windows of multiplicities, and prints what the calls answer. What
+// it prints is held to the stored file: the tables of the descendants of example 1.4 worked by hand by lemma 3.1, the rest computed apart
+// from the plain definitions. The marked cases are proved: proofs/Marked.antt.
 use libc::STDOUT_FILENO;
+use walk::BatchAnswer;
+use walk::Walk;
+use walk::WalkAnswer;
 use words::Element;
 use words::LookAnswer;
 use words::NumberAnswer;
@@ -117,9 +120,77 @@ fn ends_of_range() {
     show_child(0, 18446744073709551615);
 }
 
+// The next words of a walk, at most eight, by batches of one, and its mark where none are left.
+fn show_words(first: Walk) {
+    let mut at = first;
+    for _ in 0..8u64 {
+        let mut list = [0u64; 1];
+        let moved = walk::step(at, &mut list);
+        let report = moved.answer;
+        let BatchAnswer::Given(written) = report else {
+            return;
+        };
+        if written.count == 1 {
+            field(list[0]);
+        }
+        if written.finished {
+            text(b" finished");
+            return;
+        }
+        at = moved.walk;
+    }
+}
+
+// The first words of the walk that a call began in a window.
+fn show_begun(begun: WalkAnswer) {
+    text(b":");
+    match begun {
+        WalkAnswer::Refused(r) => refusal(r),
+        WalkAnswer::Given(first) => show_words(first),
+    }
+    end();
+}
+
+fn show_window(genus: u64, lowest: u8, highest: u8) {
+    text(b"window of genus");
+    field(genus);
+    field(lowest as u64);
+    field(highest as u64);
+    show_begun(walk::fresh_in(genus, lowest, highest));
+}
+
+fn show_start(word: u64, lowest: u8, highest: u8) {
+    text(b"start at");
+    field(word);
+    field(lowest as u64);
+    field(highest as u64);
+    show_begun(walk::start_in(word, lowest, highest));
+}
+
+// Windows of genus 4, their ends and empty ones, and of genus 32.
+fn windows() {
+    show_window(4, 3, 4);
+    show_window(4, 0, 2);
+    show_window(4, 5, 255);
+    show_window(4, 4, 3);
+    show_window(4, 6, 33);
+    show_window(0, 1, 1);
+    show_window(0, 2, 255);
+    show_window(32, 33, 33);
+    show_window(32, 32, 32);
+    show_window(32, 2, 3);
+    show_window(32, 1, 1);
+    show_window(33, 4, 3);
+    show_start(71, 3, 4);
+    show_start(71, 5, 33);
+    show_start(85, 0, 255);
+    show_start(13, 4, 3);
+}
+
 fn main() {
     example_1_4();
     example_1_5();
     example_of_001();
     ends_of_range();
+    windows();
 }

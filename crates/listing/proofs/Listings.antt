@@ -8,13 +8,14 @@ use mathlib.Core.List.{List, [], _∷_, _++_, map, append-nil, append-assoc, Lis
 use native.Mathlib.Omega.{arith}
 use lib.ListN.{length, take, drop, length-append, length-take, length-drop, take-append-drop}
 use borrow.Author.Tests.{le-leb}
-use Rattle.words.specs.Lists.{joined}
+use Rattle.words.specs.Lists.{none, joined}
 use Rattle.words.specs.GenusList.{genusList}
 use Rattle.words.proofs.Booleans.{not-both}
-use Rattle.words.proofs.Lists.{cons-nil, end-drop, joined-append, fronted-length, fronted-front, fronted-rest}
+use Rattle.words.proofs.Lists.{none-iff, cons-nil, end-drop, joined-append, fronted-length, fronted-front, fronted-rest}
 use Rattle.words.proofs.GenusList.{genus-list-mem}
-use Rattle.walk.specs.Walks.{none, standing}
-use Rattle.walk.proofs.Walks.{none-iff, rest-standing, standing-in-order}
+use Rattle.windows.proofs.Windows.{window-whole}
+use Rattle.walk.specs.Walks.{standing}
+use Rattle.walk.proofs.Walks.{rest-standing, standing-in-order}
 use Rattle.listing.specs.declared.Listing.{Listing}
 use Rattle.listing.specs.Text.{headerOf, lineOf, listingOf}
 use Rattle.listing.specs.Pages.{freshListingOf, headingOf, textLeft, Turn, linesWithin, pageWritten, pageOf, PageCall, pages, reportedBytes, wroteBytes, AfterPage, Listings}
@@ -35,7 +36,7 @@ none-lines (w ∷ l) e = absurd (omega (arith, length-append (lineOf w) (joined 
 module _ (g : ℕ) (small : g ≤ 32) where
   -- the listing of genus g that has the lines of r still to give, and the header unless it is headed
   abbrev stood : Bool → List ℕ → Listing
-  stood headed r = record { headed = headed; walk = standing g r }
+  stood headed r = record { headed = headed; walk = standing g 1 33 r }
 
   -- the pages so far and what is left are the listing, and the semigroups left are fewer with each page
   record Stands (calls : List PageCall) (headed : Bool) (r : List ℕ) : Type 0 where
@@ -61,8 +62,8 @@ module _ (g : ℕ) (small : g ≤ 32) where
     page-stood : pageOf (stood headed r) lent ≡ pageWritten (stood headed r) r lent
     unfolding standing
     page-stood =
-        page-written (stood headed r) lent small (standing-in-order g (h .passed) small r (h .split)) room
-        ∙ ap (λ (t : List ℕ). pageWritten (stood headed r) t lent) (rest-standing g (h .passed) r (h .split))
+        page-written (stood headed r) lent small (standing-in-order g 1 33 (h .passed) small r (h .split ∙ sym (window-whole g small))) room
+        ∙ ap (λ (t : List ℕ). pageWritten (stood headed r) t lent) (rest-standing g 1 33 (h .passed) r (h .split ∙ sym (window-whole g small)))
 
     wrote-text : wroteBytes c ≡ text
     unfolding wroteBytes reportedBytes standing
@@ -154,9 +155,9 @@ unfolding freshListingOf textLeft headingOf listingOf standing joined
 listings g small lents rooms =
     let L : List ℕ = genusList g in
     record {
-      fresh = record { headed = false; walk = standing g L };
+      fresh = record { headed = false; walk = standing g 1 33 L };
       fresh-answers = rw (le-leb g 32 small);
-      whole = ap (λ (r : List ℕ). headerOf g ++ joined lineOf r) (rest-standing g [] L refl);
+      whole = ap (λ (r : List ℕ). headerOf g ++ joined lineOf r) (rest-standing g 1 33 [] L (sym (window-whole g small)));
       lent-each = lent-each _ lents;
       each = after-each g small [] false L record { passed = []; split = refl; text = refl; fewer = omega arith } lents rooms;
     }

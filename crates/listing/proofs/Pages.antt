@@ -4,11 +4,12 @@ use mathlib.Core.Path.{_≡_, refl, sym, _∙_, ap, ap₂, subst}
 use mathlib.Core.Bool.{Bool, true, false, cond}
 use mathlib.Core.List.{List, [], _∷_, _++_, append-assoc}
 use native.Mathlib.Omega.{arith}
+use native.Mathlib.Decide.{decLe}
 use lib.Dec.{leb}
 use lib.ListN.{length, take, drop, length-append, length-drop, take-append-drop}
 use lib.Seq.{take-at, length-take-le}
 use borrow.Author.Tests.{le-leb, lt-leb, leb-true}
-use Rattle.words.specs.Lists.{joined, fronted}
+use Rattle.words.specs.Lists.{none, joined, fronted}
 use Rattle.words.specs.GenusList.{genusList}
 use Rattle.words.specs.Answers.{Answer, refused, given, ask}
 use Rattle.words.proofs.Booleans.{not-both, by-value}
@@ -17,8 +18,8 @@ use Rattle.walk.specs.declared.Walk.{Walk}
 use Rattle.walk.specs.declared.Written.{Written}
 use Rattle.walk.specs.declared.BatchAnswer.{BatchAnswer}
 use Rattle.walk.specs.declared.BatchAnswer.the-variants as B
-use Rattle.walk.specs.Walks.{none, rest, standing, inOrder, freshOf, unmoved, moved, ended, Ending, batchOf, countOf}
-use Rattle.walk.proofs.Walks.{rest-end, rest-standing, batch-moves, count-all}
+use Rattle.walk.specs.Walks.{rest, standing, inOrder, freshOf, unmoved, moved, ended, Ending, batchOf, countOf}
+use Rattle.walk.proofs.Walks.{rest-end, rest-standing, batch-moves, fresh-answers, fresh-in-refused, count-all}
 use Rattle.listing.specs.declared.Listing.{Listing}
 use Rattle.listing.specs.declared.Page.{Page}
 use Rattle.listing.specs.declared.PageAnswer.the-variants as P
@@ -28,23 +29,28 @@ use Rattle.listing.proofs.Lines.{header-of-le}
 
 -- ---- by what the fresh walk answers
 
+-- a genus above 32 is refused by both
 pub fresh-listing-refused : (g n : ℕ) → freshOf g ≡ refused n → freshListingOf g ≡ refused n
 unfolding freshOf freshListingOf
-fresh-listing-refused g n e = by-question (leb g 32) e
-  where
-    by-question : (p : Bool) → ask p (refused 3) (given (standing g (genusList g))) ≡ refused n
-        → ask {A = Answer Listing} p (refused 3) (given record { headed = false; walk = standing g (genusList g) }) ≡ refused n
-    by-question true e = absurd (let z : _≡_ {A = ℕ} 0 1 = cc in omega arith)
-    by-question false e = let same : 3 ≡ n = cc in ap refused same
+fresh-listing-refused g n e = elim (decLe g 32) [
+  | yes h ↦ absurd (let answers = fresh-answers g h in let z : _≡_ {A = ℕ} 0 1 = cc in omega arith)
+  | no h ↦
+      let large : 32 < g = omega arith in
+      let same : 3 ≡ n = let answers = fresh-in-refused g 1 33 large in cc in
+      rw (lt-leb g 32 large) (ap refused same)
+]
 
+-- any other is given, with the walk
 pub fresh-listing-given : (g : ℕ) (w : Walk) → freshOf g ≡ given w → freshListingOf g ≡ given record { headed = false; walk = w }
 unfolding freshOf freshListingOf
-fresh-listing-given g w e = by-question (leb g 32) e
-  where
-    by-question : (p : Bool) → ask p (refused 3) (given (standing g (genusList g))) ≡ given w
-        → ask {A = Answer Listing} p (refused 3) (given record { headed = false; walk = standing g (genusList g) }) ≡ given record { headed = false; walk = w }
-    by-question true e = let same : standing g (genusList g) ≡ w = cc in ap (λ (v : Walk). given record { headed = false; walk = v }) same
-    by-question false e = absurd (let z : _≡_ {A = ℕ} 0 1 = cc in omega arith)
+fresh-listing-given g w e = elim (decLe g 32) [
+  | yes h ↦
+      let same : standing g 1 33 (genusList g) ≡ w = let answers = fresh-answers g h in cc in
+      rw (le-leb g 32 h) (ap (λ (v : Walk). given record { headed = false; walk = v }) same)
+  | no h ↦
+      let large : 32 < g = omega arith in
+      absurd (let answers = fresh-in-refused g 1 33 large in let z : _≡_ {A = ℕ} 0 1 = cc in omega arith)
+]
 
 -- ---- by what the batch answers
 
@@ -58,7 +64,7 @@ module _ (l : Listing) (words lent : List ℕ) where
       unturned-as m e = let same : m ≡ n = cc in ap (λ (i : ℕ). unturned i l lent) same
 
       by-questions : (p q : Bool)
-          → ask p (unmoved 3 (l .walk) words) (ask q (unmoved 4 (l .walk) words) (moved (l .walk .genus) (rest (l .walk)) words)) .answer ≡ refused n
+          → ask p (unmoved 3 (l .walk) words) (ask q (unmoved 4 (l .walk) words) (moved (l .walk) (rest (l .walk)) words)) .answer ≡ refused n
           → ask p (unturned 3 l lent) (ask q (unturned 4 l lent) (ask (leb 64 (length lent)) (unturned 6 l lent) (pageWritten l (rest (l .walk)) lent))) ≡ unturned n l lent
       by-questions false q e = unturned-as 3 e
       by-questions true false e = unturned-as 4 e
@@ -70,7 +76,7 @@ unfolding batchOf
 batch-given w words r e = by-questions (leb (w .genus) 32) refl (inOrder w) refl e
   where
     by-questions : (p : Bool) → leb (w .genus) 32 ≡ p → (q : Bool) → inOrder w ≡ q
-        → ask p (unmoved 3 w words) (ask q (unmoved 4 w words) (moved (w .genus) (rest w) words)) .answer ≡ given r
+        → ask p (unmoved 3 w words) (ask q (unmoved 4 w words) (moved w (rest w) words)) .answer ≡ given r
         → (w .genus ≤ 32) × (inOrder w ≡ true)
     by-questions true s true t e = (leb-true (w .genus) 32 s, t)
     by-questions true s false t e = absurd (let z : _≡_ {A = ℕ} 0 1 = cc in omega arith)
@@ -145,7 +151,7 @@ pub record Batched (l : Listing) (lent words : List ℕ) (r : Written) (after : 
   pub order : inOrder (l .walk) ≡ true
   pub count : r .count ≡ min (linesWithin (l .headed) (length lent)) (length (rest (l .walk)))
   pub finished : r .finished ≡ none (drop (r .count) (rest (l .walk)))
-  pub walk : after ≡ standing (l .walk .genus) (drop (r .count) (rest (l .walk)))
+  pub walk : after ≡ standing (l .walk .genus) (l .walk .lowest) (l .walk .highest) (drop (r .count) (rest (l .walk)))
   pub within : r .count ≤ length words
   pub next : take (r .count) words ≡ take (r .count) (rest (l .walk))
 
@@ -161,7 +167,7 @@ batched l lent words k full room most a after list r answers e₀ =
     let R : List ℕ = rest (l .walk) in
     let fit : k ≡ linesWithin (l .headed) (length lent) = most ∙ rw (le-leb 64 (length lent) room) in
     let places : length (take k words) ≡ k = length-take-le k words (omega arith) in
-    let ends : ended (B.Given r) after list ≡ moved (l .walk .genus) R (take k words) = e ∙ batch-moves (l .walk) (take k words) small order in
+    let ends : ended (B.Given r) after list ≡ moved (l .walk) R (take k words) = e ∙ batch-moves (l .walk) (take k words) small order in
     let n : ℕ = min (length (take k words)) (length R) in
     let told : r ≡ record { count = n; finished = none (drop n R) } = let same = ap (λ (d : Ending). d .answer) ends in cc in
     let counted : n ≡ r .count = ap (λ (t : Written). t .count) (sym told) in
@@ -176,7 +182,7 @@ batched l lent words k full room most a after list r answers e₀ =
       order = order;
       count = sym counted ∙ ap (λ (m : ℕ). min m (length R)) (places ∙ fit);
       finished = ap (λ (t : Written). t .finished) told ∙ ap (λ (m : ℕ). none (drop m R)) counted;
-      walk = ap (λ (d : Ending). d .walk) ends ∙ ap (λ (m : ℕ). standing (l .walk .genus) (drop m R)) counted;
+      walk = ap (λ (d : Ending). d .walk) ends ∙ ap (λ (m : ℕ). standing (l .walk .genus) (l .walk .lowest) (l .walk .highest) (drop m R)) counted;
       within = subst (λ (m : ℕ). m ≤ length (list ++ drop k words)) counted all;
       next = subst (λ (m : ℕ). take m (list ++ drop k words) ≡ take m R) counted nexts;
     }
@@ -199,7 +205,7 @@ module _ (l : Listing) (lent words : List ℕ) (room : 64 ≤ length lent) (r : 
       let R : List ℕ = rest (l .walk) in
       let made : ℕ → List ℕ → Turn = λ n text. record {
         answer = given record { bytes = length text; finished = none (drop n R) };
-        listing = record { headed = true; walk = standing g (drop n R) };
+        listing = record { headed = true; walk = standing g (l .walk .lowest) (l .walk .highest) (drop n R) };
         list = fronted text lent;
       } in
       let texts : pageText ≡ headingOf (l .headed) g ++ joined lineOf (take (min (linesWithin (l .headed) (length lent)) (length R)) R) =
@@ -247,6 +253,6 @@ module _ (l : Listing) (lent : List ℕ) (p : Page) {t : Turn} (e : t ≡ pageOf
   page-falls room more =
       let (k, split) = rest-end (l .walk) in
       let left : rest (t .listing .walk) ≡ drop n R =
-      ap (λ (u : Turn). rest (u .listing .walk)) ends ∙ rest-standing (l .walk .genus) (k ++ take n R) (drop n R) (end-drop n k R split) in
+      ap (λ (u : Turn). rest (u .listing .walk)) ends ∙ rest-standing (l .walk .genus) (l .walk .lowest) (l .walk .highest) (k ++ take n R) (drop n R) (end-drop n k R split) in
       let some : 0 < length (drop n R) = none-left (drop n R) (ap (λ (q : Page). q .finished) (sym tells) ∙ more) in
       omega (arith, ap length left, length-drop n R, lines-some (l .headed) (length lent) room)

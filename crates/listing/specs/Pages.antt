@@ -7,10 +7,10 @@ use mathlib.Core.Bool.{Bool, true, false, cond}
 use mathlib.Core.List.{List, [], _∷_, _++_, map, List·Memᴰ}
 use lib.Dec.{leb}
 use lib.ListN.{length, take, drop}
-use Rattle.words.specs.Lists.{joined, fronted}
+use Rattle.words.specs.Lists.{none, joined, fronted}
 use Rattle.words.specs.GenusList.{genusList}
 use Rattle.words.specs.Answers.{Answer, refused, given, numberOf, ask}
-use Rattle.walk.specs.Walks.{none, rest, standing, inOrder}
+use Rattle.walk.specs.Walks.{rest, standing, inOrder}
 use Rattle.listing.specs.Text.{headerOf, lineOf, listingOf}
 use Rattle.listing.specs.declared.Listing.{Listing}
 use Rattle.listing.specs.declared.ListingAnswer.{ListingAnswer}
@@ -32,7 +32,7 @@ pageAnswered (P.Given p) = given p
 
 -- a fresh listing of genus g, of which nothing was written: question 3
 unfoldable pub freshListingOf : ℕ → Answer Listing
-freshListingOf g = ask (leb g 32) (refused 3) (given record { headed = false; walk = standing g (genusList g) })
+freshListingOf g = ask (leb g 32) (refused 3) (given record { headed = false; walk = standing g 1 33 (genusList g) })
 
 -- the header, unless it was written
 unfoldable pub headingOf : Bool → ℕ → List ℕ
@@ -70,7 +70,7 @@ pageWritten l r lent =
     let text : List ℕ = headingOf (l .headed) g ++ joined lineOf (take n r) in
     record {
       answer = given record { bytes = length text; finished = none (drop n r) };
-      listing = record { headed = true; walk = standing g (drop n r) };
+      listing = record { headed = true; walk = standing g (l .walk .lowest) (l .walk .highest) (drop n r) };
       list = fronted text lent;
     }
 

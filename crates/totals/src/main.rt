@@ -1,5 +1,6 @@
-// Prints the totals of genus 0 to 32, by the count call and by a walk in batches of an odd size, and compares a plain search of all gap
-// sets up to genus 12 with a walk, word by word. What it prints is held to the stored file: the totals are those published in A007323.
+// Prints the totals of genus 0 to 32, by the count call and by a walk in batches of an odd size; those of the windows of one multiplicity
+// of genus 20; and compares a plain search of all gap sets up to genus 12 with a walk, word by word. What it prints is held to the stored
+// file: the totals are those published in A007323, those by multiplicity were computed apart from the plain definitions.
 use libc::STDOUT_FILENO;
 use walk::BatchAnswer;
 use walk::Walk;
@@ -22,15 +23,12 @@ fn end() {
 
 // ---- totals
 
-// The number of words that a walk of the genus writes in batches into the lent list, at most `most` batches.
-fn walked_into(genus: u64, most: u64, list: &mut [u64]) -> u64 {
-    let WalkAnswer::Given(first) = walk::fresh(genus) else {
-        return 0;
-    };
+// The number of words that a walk writes in batches into the lent list, at most `most` batches.
+fn walked_into(first: Walk, most: u64, list: &mut [u64]) -> u64 {
     let mut at = first;
     let mut total: u64 = 0;
     for _ in 0..most {
-        let moved = walk::batch_from(at.genus, at.word, at.finished, list);
+        let moved = walk::batch_from(at.genus, at.word, at.lowest, at.highest, at.finished, list);
         let report = moved.answer;
         let BatchAnswer::Given(written) = report else {
             return total;
@@ -44,13 +42,16 @@ fn walked_into(genus: u64, most: u64, list: &mut [u64]) -> u64 {
     total
 }
 
-// The same with lists of a size, at most 4,095.
-fn walked(genus: u64, most: u64, size: usize) -> u64 {
+// The same of a walk that a fresh call gave, with lists of a size, at most 4,095.
+fn walked(first: WalkAnswer, most: u64, size: usize) -> u64 {
+    let WalkAnswer::Given(walk) = first else {
+        return 0;
+    };
     let mut list = [0u64; 4095];
     if 4095 < size {
         return 0;
     }
-    walked_into(genus, most, &mut list[..size])
+    walked_into(walk, most, &mut list[..size])
 }
 
 // An odd size of lists for a genus.
@@ -66,8 +67,19 @@ fn totals() {
         if let NumberAnswer::Given(n) = walk::count(0, genus) {
             field(n);
             text(b" walked");
-            field(walked(genus, n, odd_size(genus)));
+            field(walked(walk::fresh(genus), n, odd_size(genus)));
         }
+        end();
+    }
+}
+
+// Genus 20 by its windows of one multiplicity, from 0 to 22.
+fn windows() {
+    for m in 0..23u8 {
+        text(b"genus 20 multiplicity");
+        field(m as u64);
+        text(b": walked");
+        field(walked(walk::fresh_in(20, m, m), 50000, 7));
         end();
     }
 }
@@ -184,5 +196,6 @@ fn searches() {
 
 fn main() {
     totals();
+    windows();
     searches();
 }

@@ -1,57 +1,80 @@
 -- What a batch answers by the questions, and that the words put into the lent list make its ending. Assumes nothing.
 use Prim.Native.Nat.{ℕ, _^_, _≤_, _<_, min}
 use mathlib.Core.Path.{_≡_, refl, sym, _∙_, ap, subst}
-use mathlib.Core.Bool.{Bool, true, false, not, cond, _&&_, and-eq-true-iff, Bool·not-not}
+use mathlib.Core.Bool.{Bool, true, false, not, cond, _&&_, Bool·not-not}
 use mathlib.Core.List.{List, List·Memᴰ}
 use native.Mathlib.Nat.{min-zero}
 use lib.Dec.{leb, eqb}
 use lib.ListN.{length}
 use borrow.Author.Tests.{le-leb, lt-leb, eqb-true}
-use Rattle.words.specs.Lists.{onFrom}
+use Rattle.words.specs.Lists.{none, onFrom}
 use Rattle.words.specs.Words.{genus, closed}
-use Rattle.words.specs.Answers.{given, askWord}
+use Rattle.words.specs.Elements.{multiplicity}
+use Rattle.words.specs.Answers.{refused, given, askWord, reportOf, lookOf}
+use Rattle.words.specs.declared.Report.{Report}
+use Rattle.words.proofs.Answers.{asked, asked-refused, look-given}
 use Rattle.words.proofs.GenusList.{mem-genus-list}
 use Rattle.words.specs.Tree.{leaves}
 use Rattle.words.proofs.Leaves.{genus-list-leaves}
+use Rattle.windows.specs.Windows.{within, windowList}
+use Rattle.windows.proofs.Windows.{window-mem, window-on-from}
 use Rattle.walk.specs.declared.Walk.{Walk}
-use Rattle.walk.specs.Walks.{none, rest, standing, inOrder, Ending, unmoved, batchOf}
+use Rattle.walk.specs.Walks.{rest, standing, inOrder, Ending, unmoved, batchOf}
+use Rattle.walk.specs.Branches.{fromMultiplicity}
 use Rattle.walk.specs.Lending.{Lent, unwritten, putAll}
-use Rattle.walk.proofs.Walks.{batch-moves}
+use Rattle.walk.proofs.Walks.{in-order-mem, batch-moves}
 use Rattle.walk.proofs.Lending.{put-all}
 
 -- ---- question 4
 
--- of an unfinished walk it asks questions 1 and 2 of its word, and then for its genus
-pub in-order-asked : (w : Walk) → w .finished ≡ false → inOrder w ≡ askWord (λ n. false) (w .word) (eqb (genus (w .word)) (w .genus))
-unfolding inOrder askWord
-in-order-asked w e = rw e (all (leb (genus (w .word)) 32) (closed (w .word)) (eqb (genus (w .word)) (w .genus)))
-  where
-    all : (a b c : Bool) → (a && b && c) ≡ cond a (cond b c false) false
-    all true true c = refl
-    all true false c = refl
-    all false b c = refl
+-- of an unfinished walk it asks questions 1 and 2 of its word, then for its genus and its window
+module _ (w : Walk) (going : w .finished ≡ false) where
+  in-order-asked : inOrder w ≡ askWord (λ n. false) (w .word) (eqb (genus (w .word)) (w .genus) && within (w .lowest) (w .highest) (multiplicity (w .word)))
+  unfolding inOrder askWord
+  in-order-asked =
+      rw going (all (leb (genus (w .word)) 32) (closed (w .word)) (eqb (genus (w .word)) (w .genus)) (within (w .lowest) (w .highest) (multiplicity (w .word))))
+    where
+      all : (a b c d : Bool) → (a && b && c && d) ≡ cond a (cond b (c && d) false) false
+      all true true c d = refl
+      all true false c d = refl
+      all false b c d = refl
+
+  -- by what a look at the word told
+  pub in-order-refused : (n : ℕ) → lookOf (w .word) ≡ refused n → inOrder w ≡ false
+  in-order-refused n e = in-order-asked ∙ asked-refused (λ n. false) (w .word) _ n e
+
+  pub in-order-told : (r : Report) → lookOf (w .word) ≡ given r → inOrder w ≡ (eqb (r .genus) (w .genus) && within (w .lowest) (w .highest) (r .multiplicity))
+  unfolding reportOf
+  in-order-told r e =
+      let (accepted, same) = look-given (w .word) r e in
+      in-order-asked ∙ asked (λ n. false) (w .word) _ accepted
+      ∙ ap (λ (r : Report). eqb (r .genus) (w .genus) && within (w .lowest) (w .highest) (r .multiplicity)) (sym same)
 
 -- a finished walk has the word 0
 pub in-order-finished : (w : Walk) → w .finished ≡ true → inOrder w ≡ eqb (w .word) 0
 unfolding inOrder
 in-order-finished w e = rw e
 
--- an unfinished walk in order stands on a word of its genus list
-pub walk-leaf : (w : Walk) → w .word < 2 ^ 64 → w .genus ≤ 32 → inOrder w ≡ true → w .finished ≡ false → List·Memᴰ (w .word) (leaves (w .genus) 0)
-unfolding inOrder
+-- an unfinished walk in order stands on a word of its window
+pub walk-mem : (w : Walk) → w .word < 2 ^ 64 → inOrder w ≡ true → w .finished ≡ false → List·Memᴰ (w .word) (windowList (w .genus) (w .lowest) (w .highest))
+walk-mem w fits ordered going =
+    in-order-mem (w .genus) (w .lowest) (w .highest) (w .word) fits
+    (ap (λ (f : Bool). inOrder record { genus = w .genus; word = w .word; lowest = w .lowest; highest = w .highest; finished = f }) (sym going) ∙ ordered)
+
+-- which is a word of its genus list, with at least its lowest multiplicity
+pub walk-leaf : (w : Walk) → w .word < 2 ^ 64 → w .genus ≤ 32 → inOrder w ≡ true → w .finished ≡ false
+    → List·Memᴰ (w .word) (leaves (w .genus) 0) × (w .lowest ≤ multiplicity (w .word))
 walk-leaf w fits small ordered going =
-    let (accepted, same) = and-eq-true-iff (leb (genus (w .word)) 32 && closed (w .word)) (eqb (genus (w .word)) (w .genus)) .0 (rw going at ordered) in
-    let sums = and-eq-true-iff (leb (genus (w .word)) 32) (closed (w .word)) .0 accepted .1 in
-    subst (List·Memᴰ (w .word)) (genus-list-leaves (w .genus) small)
-    (mem-genus-list (w .genus) (w .word) record { fits = fits; closed = sums; gapped = eqb-true (genus (w .word)) (w .genus) same })
+    let (h, low, high) = window-mem (w .genus) (w .lowest) (w .highest) (walk-mem w fits ordered going) in
+    (subst (List·Memᴰ (w .word)) (genus-list-leaves (w .genus) small) (mem-genus-list (w .genus) (w .word) h), low)
 
 -- ---- endings
 
--- the ending with what was told of the lent list
-abbrev pub put-ending : ℕ → Lent → Ending
-put-ending g t = record {
+-- the ending of a batch with the walk w, with what was told of the lent list
+abbrev pub put-ending : Walk → Lent → Ending
+put-ending w t = record {
   answer = given record { count = t .1 .written; finished = not (t .1 .more) };
-  walk = record { genus = g; word = t .1 .next; finished = not (t .1 .more) };
+  walk = record { genus = w .genus; word = t .1 .next; lowest = w .lowest; highest = w .highest; finished = not (t .1 .more) };
   list = t .0;
 }
 
@@ -73,11 +96,12 @@ module _ (w : Walk) (lent : List ℕ) where
           let zero : w .word ≡ 0 = eqb-true (w .word) 0 (rw e at ordered) in
           batch-moves w lent small ordered ∙ rw (e, zero, min-zero (length lent))
 
-      -- the words from the walk's on are put into the lent list
-      pub batch-put : w .finished ≡ false → {t : Lent} → t ≡ putAll (onFrom (w .word) (leaves (w .genus) 0)) (lent, unwritten)
-          → batchOf w lent ≡ put-ending (w .genus) t
-      unfolding rest standing
-      batch-put going e =
-          let l : List ℕ = onFrom (w .word) (leaves (w .genus) 0) in
+      -- those from the walk's on that have at least its lowest multiplicity are put into the lent list
+      pub batch-put : w .word < 2 ^ 64 → w .finished ≡ false → {t : Lent}
+          → t ≡ putAll (fromMultiplicity (w .lowest) (onFrom (w .word) (leaves (w .genus) 0))) (lent, unwritten) → batchOf w lent ≡ put-ending w t
+      unfolding rest standing fromMultiplicity
+      batch-put fits going e =
+          let l : List ℕ = fromMultiplicity (w .lowest) (onFrom (w .word) (leaves (w .genus) 0)) in
           batch-moves w lent small ordered
-          ∙ rw (going, genus-list-leaves (w .genus) small) (simp Bool·not-not at (ap (put-ending (w .genus)) (sym (e ∙ put-all l lent (min (length lent) (length l)) refl))))
+          ∙ rw (going, window-on-from (w .genus) (w .lowest) (w .highest) (w .word) (walk-mem w fits ordered going), genus-list-leaves (w .genus) small)
+          (simp Bool·not-not at (ap (put-ending w) (sym (e ∙ put-all l lent (min (length lent) (length l)) refl))))

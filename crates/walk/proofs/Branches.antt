@@ -70,6 +70,18 @@ module _ (r w : ℕ) (at : Levels (suc r) w) where
   pub child-levels : {x : ℕ} → List·Memᴰ x (rightGenerators w) → Levels r (childWord w x)
   child-levels m = let v = child-of m in record { fits = v .fits; closed = v .closed; few = omega (arith, v .new-genus, at .few) }
 
+  -- a leaf below the child at x is a word of 64 bits that has the gap x after those of w
+  pub leaf-below : {x v : ℕ} → List·Memᴰ x (rightGenerators w) → List·Memᴰ v (leaves r (childWord w x))
+      → (l : List ℕ) × (gaps w ++ x ∷ l ≡ gaps v) × (v < 2 ^ 64)
+  leaf-below {x} {v} m n =
+      let below = child-levels m in
+      let all = descendants-leaves r (childWord w x) (below .fits) (below .closed) (below .few) in
+      let d = descendants-mem (genus (childWord w x) + r) (childWord w x) (subst (List·Memᴰ v) (sym all) n) in (
+        d .others,
+        sym (append-assoc (gaps w) (x ∷ []) (d .others)) ∙ ap (λ (k : List ℕ). k ++ d .others) (sym (child-of m .new-gaps)) ∙ d .split,
+        d .word .fits,
+      )
+
 -- ---- how many
 
 pub leaves-bound : (r w : ℕ) → Levels r w → length (leaves r w) ≤ 2 ^ (64 - conductor w)
@@ -106,23 +118,13 @@ pub record Resumed (r w row v d : ℕ) : Type 0 where
   pub on : onFrom v (leaves (suc r) w) ≡ onFrom v (leaves r (childWord w (conductor w + d))) ++ branches r w (above row d)
 
 module _ (r w row v : ℕ) (at : Levels (suc r) w) (row-is : rightGenerators w ≡ map (λ d. conductor w + d) (positions row)) where
-  -- a leaf below the child at x has the gap x after those of w
-  next-gap : {x : ℕ} → List·Memᴰ x (rightGenerators w) → List·Memᴰ v (leaves r (childWord w x)) → (l : List ℕ) × (gaps w ++ x ∷ l ≡ gaps v)
-  next-gap {x} m n =
-      let below = child-levels r w at m in
-      let all = descendants-leaves r (childWord w x) (below .fits) (below .closed) (below .few) in
-      let d = descendants-mem (genus (childWord w x) + r) (childWord w x) (subst (List·Memᴰ v) (sym all) n) in (
-        d .others,
-        sym (append-assoc (gaps w) (x ∷ []) (d .others)) ∙ ap (λ (k : List ℕ). k ++ d .others) (sym (child-of r w at m .new-gaps)) ∙ d .split,
-      )
-
   -- d is the offset of the first gap of v after those of w
   module _ (d : ℕ) (first : (x : ℕ) (l : List ℕ) → gaps w ++ x ∷ l ≡ gaps v → conductor w + d ≡ x) where
     below : List·Memᴰ v (leaves (suc r) w) → List·Memᴰ (conductor w + d) (rightGenerators w) × List·Memᴰ v (leaves r (childWord w (conductor w + d)))
     unfolding leaves
     below m =
         let (x, i, j) = joined-mem (λ x. leaves r (childWord w x)) (rightGenerators w) m in
-        let (l, s) = next-gap i j in
+        let (l, s, fits) = leaf-below r w at i j in
         let here = first x l s in
         (Memᴰ·cast here i, subst (λ (y : ℕ). List·Memᴰ v (leaves r (childWord w y))) (sym here) j)
 
@@ -143,7 +145,7 @@ module _ (r w row v : ℕ) (at : Levels (suc r) w) (row-is : rightGenerators w �
           ap (onFrom v) (leaves-row r w row row-is ∙ ap (joined branch) (sym parts))
           ∙ on-from-joined v branch d k (positions (above row d)) (λ h.
           let (i, a, b) = joined-mem branch k h in
-          let (l, s) = next-gap (row-offset i (Memᴰ·append-left (d ∷ positions (above row d)) a)) b in
+          let (l, s, fits) = leaf-below r w at (row-offset i (Memᴰ·append-left (d ∷ positions (above row d)) a)) b in
           omega (arith, first (conductor w + i) l s, lower i a)) m;
     }
       where

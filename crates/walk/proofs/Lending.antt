@@ -9,7 +9,7 @@ use native.Mathlib.Numerals.{add-one}
 use lib.ListN.{length, getD, take, drop, set, length-append}
 use lib.Seq.{set-append-seam}
 use borrow.Author.Tests.{lt-ltb, le-ltb}
-use Rattle.walk.specs.Walks.{none}
+use Rattle.words.specs.Lists.{none}
 use Rattle.walk.specs.Lending.{Lent, unwritten, putOne, putAll}
 
 module _ (x : ℕ) (t : Lent) where

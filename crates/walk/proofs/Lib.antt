@@ -1,9 +1,7 @@
 pub mod Walks
-pub mod Demand3
-pub mod Useful
-pub mod Cases
 pub mod Branches
 pub mod Nodes
+pub mod Cut
 pub mod Lending
 pub mod Measure
 pub mod Batches

@@ -1,15 +1,17 @@
 -- What each call of the walk answers, where the walk stands after it and what the lent list then holds, for all arguments. They come
--- from the genus list, which has the word of every numerical semigroup of its genus once, in list order, and nothing else: `words`,
--- `GenusList`. Assumes nothing: these are definitions.
+-- from the window list, which has the word of every numerical semigroup of a genus with a multiplicity between two bounds once, in list
+-- order, and nothing else: `windows`, `Windows`. Assumes nothing: these are definitions.
 use Prim.Native.Nat.{ℕ, min}
-use mathlib.Core.Bool.{Bool, true, false, cond, _&&_}
-use mathlib.Core.List.{List, [], _∷_, _++_}
+use mathlib.Core.Bool.{Bool, false, cond, _&&_}
+use mathlib.Core.List.{List, [], _++_}
 use lib.Dec.{leb, eqb}
 use lib.ListN.{length, take, drop, getD}
-use Rattle.words.specs.Lists.{onFrom}
+use Rattle.words.specs.Lists.{none, onFrom}
 use Rattle.words.specs.Words.{genus, closed}
-use Rattle.words.specs.GenusList.{genusList, descendantCount}
+use Rattle.words.specs.Elements.{multiplicity}
+use Rattle.words.specs.GenusList.{descendantCount}
 use Rattle.words.specs.Answers.{Answer, refused, given, ask, askWord}
+use Rattle.windows.specs.Windows.{within, windowList}
 use Rattle.walk.specs.declared.Walk.{Walk}
 use Rattle.walk.specs.declared.Written.{Written}
 use Rattle.walk.specs.declared.BatchAnswer.{BatchAnswer}
@@ -17,32 +19,39 @@ use Rattle.walk.specs.Answers.{reported}
 
 -- ---- where a walk stands
 
--- a list with nothing in it
-unfoldable pub none : List ℕ → Bool
-none [] = true
-none (x ∷ l) = false
-
--- what the walk has still to give: nothing when finished, else the genus list from its word on
+-- what the walk has still to give: nothing when finished, else its window from its word on
 unfoldable pub rest : Walk → List ℕ
-rest w = cond (w .finished) [] (onFrom (w .word) (genusList (w .genus)))
+rest w = cond (w .finished) [] (onFrom (w .word) (windowList (w .genus) (w .lowest) (w .highest)))
 
--- the walk of genus g that has l still to give: on the first of l, or finished with word 0
-unfoldable pub standing : ℕ → List ℕ → Walk
-standing g l = record { genus = g; word = getD l 0 0; finished = none l }
+-- the walk of genus g in the window from lo to hi that has l still to give: on the first of l, or finished with word 0
+unfoldable pub standing : ℕ → ℕ → ℕ → List ℕ → Walk
+standing g lo hi l = record { genus = g; word = getD l 0 0; lowest = lo; highest = hi; finished = none l }
 
--- question 4: finished with word 0, or unfinished on an accepted word of its genus
+-- question 4: finished with word 0, or unfinished on an accepted word of its genus in its window
 unfoldable pub inOrder : Walk → Bool
-inOrder w = cond (w .finished) (eqb (w .word) 0) (leb (genus (w .word)) 32 && closed (w .word) && eqb (genus (w .word)) (w .genus))
+inOrder w =
+    cond (w .finished) (eqb (w .word) 0)
+    (leb (genus (w .word)) 32 && closed (w .word) && eqb (genus (w .word)) (w .genus) && within (w .lowest) (w .highest) (multiplicity (w .word)))
 
--- ---- the fresh and the start call
+-- ---- the fresh and the start calls
 
--- a fresh walk of genus g stands on the first semigroup of its genus
+-- a fresh walk of genus g in a window stands on the first semigroup of the window; where there is none, it is already finished
+unfoldable pub freshInOf : ℕ → ℕ → ℕ → Answer Walk
+freshInOf g lo hi = ask (leb g 32) (refused 3) (given (standing g lo hi (windowList g lo hi)))
+
+-- the fresh call without a window sets 1 and 33
 unfoldable pub freshOf : ℕ → Answer Walk
-freshOf g = ask (leb g 32) (refused 3) (given (standing g (genusList g)))
+freshOf g = freshInOf g 1 33
 
--- a walk of the word's genus that stands on the word
+-- a walk of the word's genus in a window that stands on the word, which has to lie in the window
+unfoldable pub startInOf : ℕ → ℕ → ℕ → Answer Walk
+startInOf w lo hi =
+    askWord refused w
+    (ask (within lo hi (multiplicity w)) (refused 4) (given record { genus = genus w; word = w; lowest = lo; highest = hi; finished = false }))
+
+-- the start call without a window sets 1 and 33
 unfoldable pub startOf : ℕ → Answer Walk
-startOf w = askWord refused w (given record { genus = genus w; word = w; finished = false })
+startOf w = startInOf w 1 33
 
 -- ---- the batch
 
@@ -60,18 +69,18 @@ ended r w l = record { answer = reported r; walk = w; list = l }
 abbrev pub unmoved : ℕ → Walk → List ℕ → Ending
 unmoved number w lent = record { answer = refused number; walk = w; list = lent }
 
--- of r, which the walk of genus g has still to give, as many words as there are places are written to the front of the list
-abbrev pub moved : ℕ → List ℕ → List ℕ → Ending
-moved g r lent =
+-- of r, which the walk w has still to give, as many words as there are places are written to the front of the list
+abbrev pub moved : Walk → List ℕ → List ℕ → Ending
+moved w r lent =
     let n : ℕ = min (length lent) (length r) in
     record {
       answer = given record { count = n; finished = none (drop n r) };
-      walk = standing g (drop n r);
+      walk = standing (w .genus) (w .lowest) (w .highest) (drop n r);
       list = take n r ++ drop n lent;
     }
 
 unfoldable pub batchOf : Walk → List ℕ → Ending
-batchOf w lent = ask (leb (w .genus) 32) (unmoved 3 w lent) (ask (inOrder w) (unmoved 4 w lent) (moved (w .genus) (rest w) lent))
+batchOf w lent = ask (leb (w .genus) 32) (unmoved 3 w lent) (ask (inOrder w) (unmoved 4 w lent) (moved w (rest w) lent))
 
 -- ---- the count call
 

@@ -1,33 +1,37 @@
-// The walk over the numerical semigroups of a genus, in list order, and their counts.
-ghost use Prim.Native.Nat.{_+_, _<_};
+// The walk over the numerical semigroups of a genus with a multiplicity in a window, in list order, and the counts of a genus.
+ghost use Prim.Native.Nat.{_+_, _≤_, _<_};
 ghost use mathlib.Core.Path.{_≡_};
 ghost use mathlib.Core.List.{List·Memᴰ};
 ghost use lib.ListN.{length};
 ghost use Rattle.words.specs.Lists.{onFrom};
+ghost use Rattle.words.specs.Elements.{multiplicity};
 ghost use Rattle.words.specs.Positions.{above};
 ghost use Rattle.words.specs.Answers.{answered};
 ghost use Rattle.words.specs.Tree.{leaves};
 ghost use Rattle.tables.specs.Levels.{NodeWithLevels};
 ghost use Rattle.walk.specs.Answers.{begun};
-ghost use Rattle.walk.specs.Walks.{inOrder, ended, freshOf, startOf, batchOf, countOf};
-ghost use Rattle.walk.specs.Branches.{branches, Offsets, TakenOff};
+ghost use Rattle.walk.specs.Walks.{inOrder, ended, freshOf, freshInOf, startOf, startInOf, batchOf, countOf};
+ghost use Rattle.walk.specs.Branches.{branches, Offsets, TakenOff, fromMultiplicity};
 ghost use Rattle.walk.specs.Lending.{putOne, putAll};
 use tables::Node;
 use tables::NodeAnswer;
+use windows::FirstAnswer;
 use words::Element;
 use words::LookAnswer;
 use words::NumberAnswer;
 use words::Offset;
 use words::Refusal;
 
-// A genus, the next word and a finished mark; when finished, the word is 0.
+// A genus, the next word, the lowest and the highest multiplicity that it lists, and a finished mark; when finished, the word is 0.
 pub struct Walk {
     pub genus: u64,
     pub word: u64,
+    pub lowest: u8,
+    pub highest: u8,
     pub finished: bool,
 }
 
-// The answer of the fresh and the start call.
+// The answer of the fresh and the start calls.
 pub enum WalkAnswer {
     Refused(Refusal),
     Given(Walk),
@@ -189,23 +193,28 @@ fn emit_from(n: Node, rest: u64, left: u64, s: Emitted, out: &mut [u64]) -> Emit
     emit_from(n, d.rest, left, t, out)
 }
 
-// Writes the words `left` levels below a node from `word` on, which is one of them: first those below the child that has it.
-fn resume(n: Node, word: u64, left: u64, s: Emitted, out: &mut [u64]) -> Emitted
+// Writes the words `left` levels below a node from `word` on, which is one of them, that have at least the lowest multiplicity: first those
+// below the child that has it. All later ones have the multiplicity of the node, so that below the lowest they are cut.
+fn resume(n: Node, word: u64, left: u64, lowest: u8, s: Emitted, out: &mut [u64]) -> Emitted
     requires { ⌜ NodeWithLevels left n ⌝ }
     requires { ⌜ List·Memᴰ word (leaves left (n .word)) ⌝ }
-    ensures { λ r. ⌜ (now (out .exit), r) ≡ putAll (onFrom word (leaves left (n .word))) (now (out .entry), s) ⌝ }
+    requires { ⌜ lowest ≤ multiplicity word ⌝ }
+    ensures { λ r. ⌜ (now (out .exit), r) ≡ putAll (fromMultiplicity lowest (onFrom word (leaves left (n .word)))) (now (out .entry), s) ⌝ }
 {
     if left == 0 {
         put(word, s, out)
     } else {
         let d = n.next_offset(word);
-        let t = resume(n.child(d), word, left - 1, s, out);
+        let t = resume(n.child(d), word, left - 1, lowest, s, out);
+        if words::multiplicity_of(n.word) < lowest as u64 {
+            return t;
+        }
         let rest = later(n.first_row(), d);
         emit_from(n, rest, left - 1, t, out)
     }
 }
 
-// Question 4: is the walk finished with word 0, or unfinished on an accepted word of its genus?
+// Question 4: is the walk finished with word 0, or unfinished on an accepted word of its genus in its window?
 fn in_order(walk: Walk) -> bool
     ensures { λ r. ⌜ r ≡ inOrder walk ⌝ }
 {
@@ -216,37 +225,66 @@ fn in_order(walk: Walk) -> bool
     let answer = words::look(word);
     match answer {
         LookAnswer::Refused(_) => false,
-        LookAnswer::Given(report) => report.genus == walk.genus,
+        LookAnswer::Given(report) => {
+            if report.genus != walk.genus {
+                return false;
+            }
+            windows::is_within(report.multiplicity, walk.lowest, walk.highest)
+        }
     }
 }
 
-// A walk that stands on the first semigroup of a genus, whose gaps are the numbers from 1 on: refused above genus 32.
+// A walk in a window that stands on its first semigroup, or is finished where there is none: refused above genus 32.
+pub fn fresh_in(genus: u64, lowest: u8, highest: u8) -> WalkAnswer
+    ensures { λ r. ⌜ begun r ≡ freshInOf genus lowest highest ⌝ }
+{
+    let answer = windows::first_word(genus, lowest, highest);
+    match answer {
+        FirstAnswer::Refused(r) => WalkAnswer::Refused(r),
+        FirstAnswer::Given(first) => WalkAnswer::Given(Walk {
+            genus,
+            word: first.word,
+            lowest,
+            highest,
+            finished: first.empty,
+        }),
+    }
+}
+
+// A walk over a whole genus that stands on its first semigroup: refused above genus 32.
 pub fn fresh(genus: u64) -> WalkAnswer
     ensures { λ r. ⌜ begun r ≡ freshOf genus ⌝ }
 {
-    if 32 < genus {
-        return WalkAnswer::Refused(Refusal::GenusTooLarge);
-    }
-    WalkAnswer::Given(Walk {
-        genus,
-        word: (1 << genus) - 1,
-        finished: false,
-    })
+    fresh_in(genus, 1, 33)
 }
 
-// A walk of the word's genus that stands on the word: refused where the word is.
-pub fn start(word: u64) -> WalkAnswer
-    ensures { λ r. ⌜ begun r ≡ startOf word ⌝ }
+// A walk of the word's genus in a window that stands on the word: refused where the word is, and where it lies outside the window.
+pub fn start_in(word: u64, lowest: u8, highest: u8) -> WalkAnswer
+    ensures { λ r. ⌜ begun r ≡ startInOf word lowest highest ⌝ }
 {
     let answer = words::look(word);
     match answer {
         LookAnswer::Refused(r) => WalkAnswer::Refused(r),
-        LookAnswer::Given(report) => WalkAnswer::Given(Walk {
-            genus: report.genus,
-            word,
-            finished: false,
-        }),
+        LookAnswer::Given(report) => {
+            if !windows::is_within(report.multiplicity, lowest, highest) {
+                return WalkAnswer::Refused(Refusal::WalkOutOfOrder);
+            }
+            WalkAnswer::Given(Walk {
+                genus: report.genus,
+                word,
+                lowest,
+                highest,
+                finished: false,
+            })
+        }
     }
+}
+
+// A walk over the whole genus of the word that stands on the word: refused where the word is.
+pub fn start(word: u64) -> WalkAnswer
+    ensures { λ r. ⌜ begun r ≡ startOf word ⌝ }
+{
+    start_in(word, 1, 33)
 }
 
 // A batch by value: fills the lent list from the front with the words from the walk's on, as far as the list or the semigroups last, and
@@ -282,7 +320,7 @@ pub fn step(walk: Walk, out: &mut [u64]) -> Moved
         more: false,
         next: 0,
     };
-    let s = resume(Node::root(), walk.word, genus, none, out);
+    let s = resume(Node::root(), walk.word, genus, walk.lowest, none, out);
     let report = Written {
         count: s.written,
         finished: !s.more,
@@ -291,6 +329,8 @@ pub fn step(walk: Walk, out: &mut [u64]) -> Moved
         walk: Walk {
             genus,
             word: s.next,
+            lowest: walk.lowest,
+            highest: walk.highest,
             finished: !s.more,
         },
         answer: BatchAnswer::Given(report),
@@ -327,12 +367,21 @@ pub fn batch(walk: &mut Walk, out: &mut [u64]) -> BatchAnswer
 }
 
 // A batch with plain parameters, the fields of the walk.
-pub fn batch_from(genus: u64, word: u64, finished: bool, out: &mut [u64]) -> Moved
-    ensures { λ r. ⌜ ended (r .answer) (r .walk) (now (out .exit)) ≡ batchOf record { genus = genus; word = word; finished = finished } (now (out .entry)) ⌝ }
+pub fn batch_from(
+    genus: u64,
+    word: u64,
+    lowest: u8,
+    highest: u8,
+    finished: bool,
+    out: &mut [u64],
+) -> Moved
+    ensures { λ r. ⌜ ended (r .answer) (r .walk) (now (out .exit)) ≡ batchOf record { genus = genus; word = word; lowest = lowest; highest = highest; finished = finished } (now (out .entry)) ⌝ }
 {
     let mut walk = Walk {
         genus,
         word,
+        lowest,
+        highest,
         finished,
     };
     let answer = batch(&mut walk, out);

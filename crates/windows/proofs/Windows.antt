@@ -19,7 +19,7 @@ use Rattle.words.proofs.Booleans.{by-value, is-false}
 use Rattle.words.proofs.Lists.{nothing, keep-mem, mem-keep, ordered-keep, ordered-map, ordered-parts, mem-split, on-from}
 use Rattle.words.proofs.Kept.{keep-same, keep-all, keep-apart, on-from-keep}
 use Rattle.words.proofs.Sets.{multiplicity-unique}
-use Rattle.words.proofs.Elements.{multiplicity-pos, multiplicity-le-genus, multiplicity-of}
+use Rattle.words.proofs.Elements.{multiplicity-pos, multiplicity-le-genus, set-multiplicity}
 use Rattle.words.proofs.GenusList.{WordOfGenus, genus-list-mem, mem-genus-list, genus-list-ordered, earlier-asym, kept-all}
 use Rattle.windows.specs.Windows.{within, windowList, MultiplicityWithin, InWindow, AllInWindow}
 use Rattle.windows.proofs.Falling.{earlier-multiplicity}
@@ -42,9 +42,9 @@ module _ (lo hi : ℕ) where
   inside-iff w fits = (
     λ e.
         let (p, q) = within-iff (multiplicity w) .0 e in
-        record { m = multiplicity w; least = multiplicity-of w fits; lowest-le = p; le-highest = q },
+        record { m = multiplicity w; least = set-multiplicity w fits; lowest-le = p; le-highest = q },
     λ h.
-        let same = multiplicity-unique (setOf w) (h .m) (multiplicity w) (h .least) (multiplicity-of w fits) in
+        let same = multiplicity-unique (setOf w) (h .m) (multiplicity w) (h .least) (set-multiplicity w fits) in
         within-iff (multiplicity w) .1 (omega (arith, h .lowest-le, h .le-highest)),
   )
 
@@ -82,7 +82,7 @@ module _ (g lo hi : ℕ) where
   )
 
   -- a window from above to below is empty
-  window-reversed : hi < lo → windowList g lo hi ≡ []
+  pub window-reversed : hi < lo → windowList g lo hi ≡ []
   window-reversed h = nothing (windowList g lo hi) (λ w m. let (c, p, q) = window-mem m in omega arith)
 
   -- a window from 1 or 0 to g + 1 or more is the genus list

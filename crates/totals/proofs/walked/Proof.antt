@@ -15,6 +15,9 @@ walked-spec =
     (tie.spec
     (λ c. search needs)
     (λ c. search needs)
+    (λ c. search needs)
+    (λ c. search needs)
+    (λ c. search needs)
     slice-aggregate-walked-into
     (λ c κs. search needs)
     (λ c. search needs))

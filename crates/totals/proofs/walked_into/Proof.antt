@@ -7,10 +7,10 @@ use Rattle.totals.proofs.walked_into.Statement.{statement}
 use Rattle.totals.proofs.walked_into.Tie as tie
 
 abbrev Inv-loop : tie.InvT-loop
-Inv-loop genus most list₀ at₀ total₀ counter₀ list at total counter = length list ≡ length list₀
+Inv-loop most list₀ at₀ total₀ counter₀ list at total counter = length list ≡ length list₀
 
 abbrev μ-loop : tie.MeasureT-loop
-μ-loop genus most list₀ at₀ total₀ counter₀ list at total counter = most - counter
+μ-loop most list₀ at₀ total₀ counter₀ list at total counter = most - counter
 
 pub walked-into-spec : {M : Type 1} → statement M
 walked-into-spec =
@@ -18,10 +18,6 @@ walked-into-spec =
     (tie.spec
     Inv-loop
     μ-loop
-    (λ c κs. search needs)
-    (λ c. search needs)
-    (λ c. search needs)
-    (λ c. search needs)
     (λ c. search needs)
     (λ c κs. search needs)
     (λ c. search needs)

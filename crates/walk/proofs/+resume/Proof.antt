@@ -1,15 +1,17 @@
 -- The proof of `resume`, which calls itself: the levels below a node are the measure. Assumes nothing.
-use Prim.Native.Nat.{ℕ, _<_}
+use Prim.Native.Nat.{ℕ, _≤_, _<_}
 use mathlib.Core.Path.{_≡_, sym, ap, subst, _∙_}
 use native.Mathlib.Omega.{arith}
 use borrow.Fn.Kinds.{In}
 use borrow.Fn.PlainCycle.{Measures, is, falls, and}
 use Rattle.words.specs.Positions.{above}
+use Rattle.words.specs.Elements.{multiplicity}
 use Rattle.tables.specs.Nodes.{firstRow}
 use Rattle.walk.specs.Branches.{Offsets}
 use Rattle.walk.specs.Lending.{putAll}
 use Rattle.walk.proofs.Branches.{on-from-own}
 use Rattle.walk.proofs.Nodes.{Below, next-child}
+use Rattle.walk.proofs.Cut.{later-cut, later-kept, kept-own}
 use Rattle.walk.proofs.Lending.{put-append}
 use Rattle.walk.proofs.resume.Reads as resume
 use Rattle.walk.proofs.resume.Kinds as resume-kinds
@@ -17,6 +19,7 @@ use Rattle.walk.proofs.+resume.Lts-resume as resume-lts
 use Rattle.tables.proofs.Node.child.Reads as child-reads
 use Rattle.tables.proofs.Node.first_row.Reads as first-row-reads
 use Rattle.tables.proofs.Node.next_offset.Reads as next-offset-reads
+use Rattle.words.proofs.multiplicity_of.Reads as multiplicity-of-reads
 use Rattle.walk.proofs.later.Reads as later-reads
 use Rattle.walk.proofs.emit_from.Reads as emit-from-reads
 use Rattle.walk.proofs.put.Reads as put-reads
@@ -44,6 +47,8 @@ module _ (t : ℕ) where
     child-reads.Learnt,
     below,
     resume.Post,
+    multiplicity-of-reads.Asked,
+    multiplicity-of-reads.Learnt,
     first-row-reads.Asked,
     first-row-reads.Learnt,
     later-reads.Asked,
@@ -57,42 +62,61 @@ module _ (t : ℕ) where
       let a = c .before .before .before .args in Below (a .left) (a .n) (a .word) (c .next-offset .result .0)
   found c =
       let start = c .before .before .before in
-      next-child _ _ (c .before .if1 .left) (start .pre .1 .0) _ (start .pre .1 .1) (c .next-offset .ensures)
+      next-child _ _ (c .before .if1 .left) (start .pre .1 .0) _ (start .pre .1 .1 .0) (c .next-offset .ensures)
 
   -- the offsets after that one
   after : (c : resume-lts.After-later claims at resume.Post) →
-      let at-offset = c .before .before .before .before .before .before .before in
+      let at-offset = c .before .before .before .before .before .before .before .before .before in
       c .later .result ≡ above (firstRow (at-offset .before .before .before .args .n)) (at-offset .next-offset .result .0)
   after c =
-      let at-offset = c .before .before .before .before .before .before .before in
+      let at-offset = c .before .before .before .before .before .before .before .before .before in
       c .later .ensures ∙ ap (λ (row : ℕ). above row (at-offset .next-offset .result .0)) (c .before .first-row .ensures)
 
   resume-requires : resume-lts.Need-resume-requires claims at resume.Post
   resume-requires c κs =
       let b = found (c .before .before) in
-      (omega arith, rw (c .before .child .ensures) (b .child, b .leaf))
+      (omega arith, rw (c .before .child .ensures) (b .child, (b .leaf, c .before .before .before .before .before .pre .1 .1 .1)))
 
   later-requires : resume-lts.Need-later-requires claims at resume.Post
-  later-requires c κs = omega (arith, found (c .before .before .before .before .before .before) .near)
+  later-requires c κs = omega (arith, found (c .before .before .before .before .before .before .before .before) .near)
 
   emit-from-requires : resume-lts.Need-emit-from-requires claims at resume.Post
   emit-from-requires c κs =
-      let b = found (c .before .before .before .before .before .before .before .before) in
+      let b = found (c .before .before .before .before .before .before .before .before .before .before) in
       (b .node-levels, subst (Offsets _) (sym (after (c .before))) (b .offsets))
 
+  -- the multiplicity of the node is below the lowest: the later branches are cut
   returns : resume-lts.Need-returns claims at resume.Post
-  unfolding putAll
   returns c =
-      let start = c .before .before .before .before .before .before in
-      let none = c .before .before .before .before .if1 .taken in
-      rw (none, on-from-own _ _ (rw none at (start .pre .1 .1))) (c .before .before .put .ensures)
+      let at-resume = c .before .before .before .before in
+      let b = found (at-resume .before .before .before) in
+      let a = at-resume .before .before .before .before .before .before .args in
+      let below : multiplicity (a .n .word) < a .lowest = omega (arith, c .before .multiplicity-of .ensures) in
+      rw (later-cut _ _ _ _ _ b below, ← at-resume .before .before .child .ensures) (at-resume .resume .ensures)
 
   returns-2 : resume-lts.Need-returns-2 claims at resume.Post
+  unfolding putAll
   returns-2 c =
+      let start = c .before .before .before .before .before .before in
+      let none = c .before .before .before .before .if1 .taken in
+      rw (none, on-from-own _ _ (rw none at (start .pre .1 .1 .0)), kept-own _ _ (start .pre .1 .1 .1)) (c .before .before .put .ensures)
+
+  -- otherwise they follow
+  returns-3 : resume-lts.Need-returns-3 claims at resume.Post
+  returns-3 c =
       let at-later = c .before .before .before .before in
-      let at-resume = at-later .before .before .before .before in
+      let at-test = at-later .before .before in
+      let at-resume = at-test .before .before .before .before in
       let b = found (at-resume .before .before .before) in
-      rw (b .parts, put-append, ← at-resume .before .before .child .ensures, ← at-resume .resume .ensures, ← after at-later)
+      let a = at-resume .before .before .before .before .before .before .args in
+      let inside : a .lowest ≤ multiplicity (a .n .word) = omega (arith, at-test .before .multiplicity-of .ensures) in
+      rw (
+        later-kept _ _ _ _ _ b inside,
+        put-append,
+        ← at-resume .before .before .child .ensures,
+        ← at-resume .resume .ensures,
+        ← after at-later,
+      )
       (c .before .before .emit-from .ensures)
 
 pub +resume-spec : {M : Type 1} → statement M
@@ -104,10 +128,13 @@ pub +resume-spec : {M : Type 1} → statement M
     (λ c. omega arith)
     (resume-requires t)
     (λ c κs. tt)
+    (λ c. omega arith)
+    (returns t)
+    (λ c κs. tt)
     (later-requires t)
     (λ c. omega arith)
     (emit-from-requires t)
     (λ c. omega arith)
-    (returns t)
-    (λ c. omega arith)
     (returns-2 t)
+    (λ c. omega arith)
+    (returns-3 t)

@@ -47,7 +47,7 @@ returns-4 c =
     let at-resume = c .before .before .before .before in
     let at-root = at-resume .before .before in
     let at-order = at-root .before .before .before in
-    sym (batch-put _ _ (at-order .before .if1 .left) (ordered (at-root .before .before)) (at-root .before .if3 .left)
+    sym (batch-put _ _ (at-order .before .if1 .left) (ordered (at-root .before .before)) (omega (arith, at-order .before .before .before .good)) (at-root .before .if3 .left)
     (rw (at-root .root .ensures) at (at-resume .resume .ensures)))
 
 pub step-spec : {M : Type 1} → statement M
