@@ -23,8 +23,12 @@ static bool report_is(atlas_report r, uint64_t refused, uint64_t genus, uint64_t
   return r.refused == refused && r.genus == genus && r.multiplicity == multiplicity && r.conductor == conductor;
 }
 
-static bool walk_is(atlas_walk w, uint64_t genus, uint64_t word, bool finished) {
-  return w.genus == genus && w.word == word && w.finished == finished;
+static bool walk_is(atlas_walk w, uint64_t genus, uint64_t word, uint8_t lowest, uint8_t highest, uint8_t finished) {
+  return w.genus == genus && w.word == word && w.lowest == lowest && w.highest == highest && w.finished == finished;
+}
+
+static bool begun_is(atlas_begun b, uint64_t refused, uint64_t genus, uint64_t word, uint8_t lowest, uint8_t highest, uint8_t finished) {
+  return b.refused == refused && walk_is(b.walk, genus, word, lowest, highest, finished);
 }
 
 /* The gaps 1 to 33; the gaps 1, 3 and 4, which leave out 2 + 2; the word of genus 32 with the generators 2 and 65. */
@@ -50,36 +54,69 @@ static void tables(void) {
 }
 
 static void beginnings(void) {
-  atlas_begun begun = atlas_fresh(4);
-  CHECK(begun.refused == 0 && walk_is(begun.walk, 4, 15, false));
-  begun = atlas_fresh(33);
-  CHECK(begun.refused == 3 && walk_is(begun.walk, 0, 0, false));
-  begun = atlas_start(71);
-  CHECK(begun.refused == 0 && walk_is(begun.walk, 4, 71, false));
-  begun = atlas_start(too_many);
-  CHECK(begun.refused == 1 && walk_is(begun.walk, 0, 0, false));
-  begun = atlas_start(not_closed);
-  CHECK(begun.refused == 2 && walk_is(begun.walk, 0, 0, false));
+  CHECK(begun_is(atlas_fresh(4), 0, 4, 15, 1, 33, 0));
+  CHECK(begun_is(atlas_fresh(33), 3, 0, 0, 0, 0, 0));
+  CHECK(begun_is(atlas_fresh_in(4, 3, 4), 0, 4, 23, 3, 4, 0));
+  CHECK(begun_is(atlas_fresh_in(4, 6, 33), 0, 4, 0, 6, 33, 1));
+  CHECK(begun_is(atlas_fresh_in(4, 4, 3), 0, 4, 0, 4, 3, 1));
+  CHECK(begun_is(atlas_fresh_in(33, 3, 4), 3, 0, 0, 0, 0, 0));
+  CHECK(begun_is(atlas_start(71), 0, 4, 71, 1, 33, 0));
+  CHECK(begun_is(atlas_start(too_many), 1, 0, 0, 0, 0, 0));
+  CHECK(begun_is(atlas_start(not_closed), 2, 0, 0, 0, 0, 0));
+  CHECK(begun_is(atlas_start_in(71, 4, 4), 0, 4, 71, 4, 4, 0));
+  CHECK(begun_is(atlas_start_in(71, 5, 33), 4, 0, 0, 0, 0, 0));
+  CHECK(begun_is(atlas_start_in(too_many, 1, 255), 1, 0, 0, 0, 0, 0));
+  CHECK(begun_is(atlas_start_in(not_closed, 1, 255), 2, 0, 0, 0, 0, 0));
+  CHECK(begun_is(atlas_start_in(too_many, 4, 3), 1, 0, 0, 0, 0, 0));
+  CHECK(begun_is(atlas_start_in(not_closed, 4, 3), 2, 0, 0, 0, 0, 0));
 }
 
-/* Genus 4 by lists of 3, 0 and 5, and refused batches, which leave the walk and the list as they were. */
+/* Genus 4 by lists of 3, 0 and 5. */
 static void batches(void) {
   uint64_t out[5] = {0, 0, 0, 7, 7};
   atlas_moved moved = atlas_batch(atlas_fresh(4).walk, out, 3);
-  CHECK(moved.refused == 0 && moved.count == 3 && !moved.finished && walk_is(moved.walk, 4, 71, false));
+  CHECK(moved.refused == 0 && moved.count == 3 && !moved.finished && walk_is(moved.walk, 4, 71, 1, 33, 0));
   CHECK(memcmp(out, (uint64_t[]){15, 23, 39, 7, 7}, sizeof out) == 0);
   moved = atlas_batch(moved.walk, out, 0);
-  CHECK(moved.refused == 0 && moved.count == 0 && !moved.finished && walk_is(moved.walk, 4, 71, false));
+  CHECK(moved.refused == 0 && moved.count == 0 && !moved.finished && walk_is(moved.walk, 4, 71, 1, 33, 0));
   moved = atlas_batch(moved.walk, out, 5);
-  CHECK(moved.refused == 0 && moved.count == 4 && moved.finished && walk_is(moved.walk, 4, 0, true));
+  CHECK(moved.refused == 0 && moved.count == 4 && moved.finished && walk_is(moved.walk, 4, 0, 1, 33, 1));
   CHECK(memcmp(out, (uint64_t[]){71, 27, 75, 85, 7}, sizeof out) == 0);
   moved = atlas_batch(moved.walk, out, 5);
-  CHECK(moved.refused == 0 && moved.count == 0 && moved.finished && walk_is(moved.walk, 4, 0, true));
-  moved = atlas_batch((atlas_walk){.genus = 33, .word = 15}, out, 5);
-  CHECK(moved.refused == 3 && moved.count == 0 && !moved.finished && walk_is(moved.walk, 33, 15, false));
-  moved = atlas_batch((atlas_walk){.genus = 5, .word = 15}, out, 5);
-  CHECK(moved.refused == 4 && moved.count == 0 && !moved.finished && walk_is(moved.walk, 5, 15, false));
+  CHECK(moved.refused == 0 && moved.count == 0 && moved.finished && walk_is(moved.walk, 4, 0, 1, 33, 1));
   CHECK(memcmp(out, (uint64_t[]){71, 27, 75, 85, 7}, sizeof out) == 0);
+}
+
+/* The window 3 to 4 of genus 4 by lists of 2 and 4, and an empty window. */
+static void window_batches(void) {
+  uint64_t out[5] = {7, 7, 7, 7, 7};
+  atlas_moved moved = atlas_batch(atlas_fresh_in(4, 3, 4).walk, out, 2);
+  CHECK(moved.refused == 0 && moved.count == 2 && !moved.finished && walk_is(moved.walk, 4, 71, 3, 4, 0));
+  CHECK(memcmp(out, (uint64_t[]){23, 39, 7, 7, 7}, sizeof out) == 0);
+  moved = atlas_batch(moved.walk, out, 4);
+  CHECK(moved.refused == 0 && moved.count == 3 && moved.finished && walk_is(moved.walk, 4, 0, 3, 4, 1));
+  CHECK(memcmp(out, (uint64_t[]){71, 27, 75, 7, 7}, sizeof out) == 0);
+  moved = atlas_batch(atlas_fresh_in(4, 4, 3).walk, out, 5);
+  CHECK(moved.refused == 0 && moved.count == 0 && moved.finished && walk_is(moved.walk, 4, 0, 4, 3, 1));
+  CHECK(memcmp(out, (uint64_t[]){71, 27, 75, 7, 7}, sizeof out) == 0);
+}
+
+/* Is a batch of the walk refused with this number, and are the walk and the list as they were? */
+static bool batch_refused(atlas_walk w, uint64_t refused) {
+  uint64_t out[2] = {7, 7};
+  atlas_moved m = atlas_batch(w, out, 2);
+  return m.refused == refused && m.count == 0 && !m.finished && walk_is(m.walk, w.genus, w.word, w.lowest, w.highest, w.finished) &&
+         out[0] == 7 && out[1] == 7;
+}
+
+/* Walks above genus 32, of another genus than their word's, outside their window, finished with a word, and with a finished byte 2. */
+static void refused_batches(void) {
+  CHECK(batch_refused((atlas_walk){.genus = 33, .word = 15, .lowest = 1, .highest = 33}, 3));
+  CHECK(batch_refused((atlas_walk){.genus = 5, .word = 15, .lowest = 1, .highest = 33}, 4));
+  CHECK(batch_refused((atlas_walk){.genus = 4, .word = 71, .lowest = 5, .highest = 33}, 4));
+  CHECK(batch_refused((atlas_walk){.genus = 4, .word = 71, .lowest = 1, .highest = 33, .finished = 1}, 4));
+  CHECK(batch_refused((atlas_walk){.genus = 4, .word = 0, .lowest = 1, .highest = 33, .finished = 2}, 4));
+  CHECK(batch_refused((atlas_walk){.genus = 33, .word = 0, .lowest = 1, .highest = 33, .finished = 2}, 3));
 }
 
 static void counts(void) {
@@ -139,6 +176,8 @@ int main(void) {
   tables();
   beginnings();
   batches();
+  window_batches();
+  refused_batches();
   counts();
   generators();
   coordinates();

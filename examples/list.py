@@ -1,9 +1,11 @@
-"""Lists the semigroups of a genus with a walk that is put away after each batch and taken up again.  Usage: list.py LIBRARY GENUS"""
+"""Lists the semigroups of a genus, or those with a multiplicity from LOWEST to HIGHEST, with a walk that is put away after each batch and
+taken up again.  Usage: list.py LIBRARY GENUS [LOWEST HIGHEST]"""
 import ctypes
 import json
 import sys
 
 u64 = ctypes.c_uint64
+u8 = ctypes.c_uint8
 
 
 class Number(ctypes.Structure):
@@ -15,7 +17,7 @@ class Report(ctypes.Structure):
 
 
 class Walk(ctypes.Structure):
-    _fields_ = [("genus", u64), ("word", u64), ("finished", ctypes.c_bool)]
+    _fields_ = [("genus", u64), ("word", u64), ("lowest", u8), ("highest", u8), ("finished", u8)]
 
 
 class Begun(ctypes.Structure):
@@ -30,6 +32,7 @@ def opened(path):
     atlas = ctypes.CDLL(path)
     for name, result, arguments in [
         ("atlas_fresh", Begun, [u64]),
+        ("atlas_fresh_in", Begun, [u64, u8, u8]),
         ("atlas_count", Number, [u64, u64]),
         ("atlas_look", Report, [u64]),
         ("atlas_batch", Moved, [Walk, ctypes.POINTER(u64), ctypes.c_size_t]),
@@ -39,14 +42,18 @@ def opened(path):
     return atlas
 
 
-def main(library, genus):
+def put_away(walk):
+    return json.dumps([getattr(walk, name) for name, _ in Walk._fields_])
+
+
+def main(library, genus, *bounds):
     atlas = opened(library)
-    begun = atlas.atlas_fresh(genus)
+    begun = atlas.atlas_fresh_in(genus, *(min(b, 255) for b in bounds)) if bounds else atlas.atlas_fresh(genus)
     if begun.refused:
         print("refused", begun.refused)
         return 1
     print("genus", genus, "count", atlas.atlas_count(0, genus).value)
-    saved = json.dumps([begun.walk.genus, begun.walk.word, begun.walk.finished])
+    saved = put_away(begun.walk)
     while True:
         walk = Walk(*json.loads(saved))
         words = (u64 * 3)()
@@ -56,7 +63,7 @@ def main(library, genus):
             print(word, report.conductor, report.multiplicity)
         if moved.refused or moved.finished:
             return int(moved.refused != 0)
-        saved = json.dumps([moved.walk.genus, moved.walk.word, moved.walk.finished])
+        saved = put_away(moved.walk)
 
 
-sys.exit(main(sys.argv[1], int(sys.argv[2])))
+sys.exit(main(sys.argv[1], *map(int, sys.argv[2:5])))

@@ -9,10 +9,11 @@
    the call.
 
    Refusals: 1 more than 32 gaps; 2 not closed under addition; 3 genus (of a child: one more than the word's) above 32; 4 a walk that is
-   neither finished with word 0 nor unfinished on an accepted word of its genus; 5 no generator, or below the conductor; 6 the lent list is
-   too short; 7 a given generator is 0; 8 the greatest common divisor of the given generators is not 1 (an empty list's is 0); 9 the given
-   generators leave more than 32 gaps; 11 a given coordinate is 0; 12 the given coordinates add up to more than 32; 13 an inequality of the
-   given coordinates fails. (10 is the listing program's.)
+   neither finished with word 0 nor unfinished on an accepted word of its genus in its window, a finished byte other than 0 and 1, or a
+   start at a word outside the window; 5 no generator, or below the conductor; 6 the lent list is too short; 7 a given generator is 0; 8
+   the greatest common divisor of the given generators is not 1 (an empty list's is 0); 9 the given generators leave more than 32 gaps;
+   11 a given coordinate is 0; 12 the given coordinates add up to more than 32; 13 an inequality of the given coordinates fails. (10 is
+   the listing program's.)
 
    Link with target/staticlib/libatlas.a, which `rt staticlib atlas` writes. */
 #ifndef ATLAS_H
@@ -40,12 +41,14 @@ typedef struct {
   uint64_t conductor;
 } atlas_report;
 
-/* A walk over the semigroups of a genus, in list order: the next word, or 0 when finished. It holds nothing else, so it may be stored
-   and used again in another process. */
+/* A walk over the semigroups of a genus with a multiplicity from the lowest to the highest, in list order: the next word, or 0 when
+   finished. The finished byte is 0 or 1. It holds nothing else, so it may be stored and used again in another process. */
 typedef struct {
   uint64_t genus;
   uint64_t word;
-  bool finished;
+  uint8_t lowest;
+  uint8_t highest;
+  uint8_t finished;
 } atlas_walk;
 
 /* A walk that a call began. */
@@ -71,11 +74,18 @@ atlas_number atlas_seed_table(uint64_t word);
 /* The word of the semigroup without `element`, a generator not below the conductor. Refusals 1, 2, 3, 5. */
 atlas_number atlas_child(uint64_t word, uint64_t element);
 
-/* A walk on the first semigroup of a genus. Refusal 3. */
+/* A walk on the first semigroup of a genus; it has lowest 1 and highest 33, which hold the whole genus. Refusal 3. */
 atlas_begun atlas_fresh(uint64_t genus);
 
-/* A walk of the word's genus on the word. Refusals 1, 2. */
+/* A walk on the first semigroup of a genus with a multiplicity from the lowest to the highest. Where there is none, or the lowest is above
+   the highest, the walk is already finished. Refusal 3. */
+atlas_begun atlas_fresh_in(uint64_t genus, uint8_t lowest, uint8_t highest);
+
+/* A walk of the word's genus on the word; it has lowest 1 and highest 33. Refusals 1, 2. */
 atlas_begun atlas_start(uint64_t word);
+
+/* A walk of the word's genus on the word, with a lowest and a highest multiplicity. Refusals 1, 2, and 4 for a word outside. */
+atlas_begun atlas_start_in(uint64_t word, uint8_t lowest, uint8_t highest);
 
 /* Writes the next words to the front of `out`, as far as its length or the semigroups last; places after them are untouched. Go on with
    the walk that comes back. Refusals 3, 4. */

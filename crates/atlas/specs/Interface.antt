@@ -1,11 +1,14 @@
 -- Answers as the structs that C callers get: the number of a refusal first, 0 for an answer, then the values, 0 where refused.
 -- Assumes nothing: these are definitions.
 use Prim.Native.Nat.{ℕ}
-use mathlib.Core.Bool.{false}
-use Rattle.words.specs.Answers.{Answer, refused, given}
+use mathlib.Core.Bool.{Bool, true, false}
+use mathlib.Core.List.{List}
+use lib.Dec.{eqb, leb}
+use Rattle.words.specs.Answers.{Answer, refused, given, ask}
 use Rattle.words.specs.declared.Report.{Report}
 use Rattle.walk.specs.declared.Walk.{Walk}
 use Rattle.walk.specs.declared.Written.{Written}
+use Rattle.walk.specs.Walks.{Ending, batchOf}
 use Rattle.atlas.specs.declared.AtlasNumber.{AtlasNumber}
 use Rattle.atlas.specs.declared.AtlasReport.{AtlasReport}
 use Rattle.atlas.specs.declared.AtlasWalk.{AtlasWalk}
@@ -20,18 +23,39 @@ abbrev pub reportIn : Answer Report → AtlasReport
 reportIn (refused n) = record { refused = n; genus = 0; multiplicity = 0; conductor = 0 }
 reportIn (given r) = record { refused = 0; genus = r .genus; multiplicity = r .multiplicity; conductor = r .conductor }
 
--- a walk, both ways
-abbrev pub walkIn : Walk → AtlasWalk
-walkIn w = record { genus = w .genus; word = w .word; finished = w .finished }
+-- a finished mark as a byte, both ways
+abbrev pub markIn : Bool → ℕ
+markIn true = 1
+markIn false = 0
 
+abbrev pub walkIn : Walk → AtlasWalk
+walkIn w = record { genus = w .genus; word = w .word; lowest = w .lowest; highest = w .highest; finished = markIn (w .finished) }
+
+-- the walk that a C caller means by a finished mark of 0 or 1
 abbrev pub walkFrom : AtlasWalk → Walk
-walkFrom w = record { genus = w .genus; word = w .word; finished = w .finished }
+walkFrom w = record { genus = w .genus; word = w .word; lowest = w .lowest; highest = w .highest; finished = eqb (w .finished) 1 }
 
 abbrev pub begunIn : Answer Walk → AtlasBegun
-begunIn (refused n) = record { refused = n; walk = record { genus = 0; word = 0; finished = false } }
+begunIn (refused n) = record { refused = n; walk = record { genus = 0; word = 0; lowest = 0; highest = 0; finished = 0 } }
 begunIn (given w) = record { refused = 0; walk = walkIn w }
 
--- how a batch ended, with the walk afterwards
+-- how a batch ended: refused, with the walk as it was given
+abbrev pub unmovedIn : ℕ → AtlasWalk → AtlasMoved
+unmovedIn number w = record { refused = number; walk = w; count = 0; finished = false }
+
+-- and with the walk afterwards
 abbrev pub movedIn : Walk → Answer Written → AtlasMoved
-movedIn w (refused n) = record { refused = n; walk = walkIn w; count = 0; finished = false }
+movedIn w (refused n) = unmovedIn n (walkIn w)
 movedIn w (given r) = record { refused = 0; walk = walkIn w; count = r .count; finished = r .finished }
+
+-- the ending of a batch for a C caller: its answer and the lent list
+pub record AtlasEnding : Type 0 where
+  pub answer : AtlasMoved
+  pub list : List ℕ
+
+-- a batch: question 3; then question 4, where a finished mark that is neither 0 nor 1 is a walk out of order
+unfoldable pub batchIn : AtlasWalk → List ℕ → AtlasEnding
+batchIn w lent =
+    ask (leb (w .genus) 32) record { answer = unmovedIn 3 w; list = lent }
+    (ask (leb (w .finished) 1) record { answer = unmovedIn 4 w; list = lent }
+    (let ending : Ending = batchOf (walkFrom w) lent in record { answer = movedIn (ending .walk) (ending .answer); list = ending .list }))

@@ -1,20 +1,21 @@
 // The calls of the atlas for callers in C and in languages that call C. An answer is a struct by value: first the number of the
 // refusal, 0 where there is none, then the values, all 0 where the call is refused. A list is a pointer and a length.
 ghost use mathlib.Core.Path.{_≡_};
-ghost use Rattle.words.specs.Answers.{answered, looked, lookOf};
+ghost use Rattle.words.specs.Answers.{answered, looked, lookOf, numberOf};
 ghost use Rattle.tables.specs.Answers.{tableOf, childOf};
 ghost use Rattle.walk.specs.Answers.{begun, reported};
-ghost use Rattle.walk.specs.Walks.{freshOf, startOf, batchOf, countOf};
+ghost use Rattle.walk.specs.Walks.{freshOf, freshInOf, startOf, startInOf, countOf};
 ghost use Rattle.generators.specs.Generators.{generatorsOf, wordFromOf};
 ghost use Rattle.elementary.specs.Answers.{elementaryOf};
 ghost use Rattle.kunz.specs.Coordinates.{coordinatesOf, wordFromCoordinatesOf};
-ghost use Rattle.atlas.specs.Interface.{numberIn, reportIn, begunIn, walkFrom, movedIn};
+ghost use Rattle.atlas.specs.Interface.{numberIn, reportIn, walkIn, begunIn, unmovedIn, movedIn, batchIn};
 use walk::BatchAnswer;
 use walk::Walk;
 use walk::WalkAnswer;
 use words::Element;
 use words::LookAnswer;
 use words::NumberAnswer;
+use words::Refusal;
 
 // A number, or the number of a refusal.
 #[repr(C)]
@@ -32,12 +33,14 @@ pub struct AtlasReport {
     pub conductor: u64,
 }
 
-// A walk: its genus, the next word and the finished mark.
+// A walk: its genus, the next word, the lowest and the highest multiplicity, and the finished mark, 0 or 1.
 #[repr(C)]
 pub struct AtlasWalk {
     pub genus: u64,
     pub word: u64,
-    pub finished: bool,
+    pub lowest: u8,
+    pub highest: u8,
+    pub finished: u8,
 }
 
 // A walk that a call began, or the number of a refusal.
@@ -87,6 +90,18 @@ fn report_of(answer: LookAnswer) -> AtlasReport
     }
 }
 
+fn walk_of(walk: Walk) -> AtlasWalk
+    ensures { λ r. ⌜ r ≡ walkIn walk ⌝ }
+{
+    AtlasWalk {
+        genus: walk.genus,
+        word: walk.word,
+        lowest: walk.lowest,
+        highest: walk.highest,
+        finished: walk.finished as u8,
+    }
+}
+
 fn begun_of(answer: WalkAnswer) -> AtlasBegun
     ensures { λ r. ⌜ r ≡ begunIn (begun answer) ⌝ }
 {
@@ -96,35 +111,35 @@ fn begun_of(answer: WalkAnswer) -> AtlasBegun
             walk: AtlasWalk {
                 genus: 0,
                 word: 0,
-                finished: false,
+                lowest: 0,
+                highest: 0,
+                finished: 0,
             },
         },
         WalkAnswer::Given(walk) => AtlasBegun {
             refused: 0,
-            walk: AtlasWalk {
-                genus: walk.genus,
-                word: walk.word,
-                finished: walk.finished,
-            },
+            walk: walk_of(walk),
         },
+    }
+}
+
+fn unmoved_of(walk: AtlasWalk, refusal: Refusal) -> AtlasMoved
+    ensures { λ r. ⌜ r ≡ unmovedIn (numberOf refusal) walk ⌝ }
+{
+    AtlasMoved {
+        refused: refusal.number(),
+        walk,
+        count: 0,
+        finished: false,
     }
 }
 
 fn moved_of(walk: Walk, answer: BatchAnswer) -> AtlasMoved
     ensures { λ r. ⌜ r ≡ movedIn walk (reported answer) ⌝ }
 {
-    let walk = AtlasWalk {
-        genus: walk.genus,
-        word: walk.word,
-        finished: walk.finished,
-    };
+    let walk = walk_of(walk);
     match answer {
-        BatchAnswer::Refused(refusal) => AtlasMoved {
-            refused: refusal.number(),
-            walk,
-            count: 0,
-            finished: false,
-        },
+        BatchAnswer::Refused(refusal) => unmoved_of(walk, refusal),
         BatchAnswer::Given(written) => AtlasMoved {
             refused: 0,
             walk,
@@ -166,6 +181,14 @@ pub extern "C" fn atlas_fresh(genus: u64) -> AtlasBegun
     begun_of(walk::fresh(genus))
 }
 
+// A walk on the first semigroup of a genus with a multiplicity from the lowest to the highest. Question 3.
+#[no_mangle]
+pub extern "C" fn atlas_fresh_in(genus: u64, lowest: u8, highest: u8) -> AtlasBegun
+    ensures { λ r. ⌜ r ≡ begunIn (freshInOf genus lowest highest) ⌝ }
+{
+    begun_of(walk::fresh_in(genus, lowest, highest))
+}
+
 // A walk on a given word. Questions 1, 2.
 #[no_mangle]
 pub extern "C" fn atlas_start(word: u64) -> AtlasBegun
@@ -174,16 +197,32 @@ pub extern "C" fn atlas_start(word: u64) -> AtlasBegun
     begun_of(walk::start(word))
 }
 
-// The next words into a lent list. Questions 3, 4.
+// A walk on a given word with a multiplicity from the lowest to the highest. Questions 1, 2, 4.
+#[no_mangle]
+pub extern "C" fn atlas_start_in(word: u64, lowest: u8, highest: u8) -> AtlasBegun
+    ensures { λ r. ⌜ r ≡ begunIn (startInOf word lowest highest) ⌝ }
+{
+    begun_of(walk::start_in(word, lowest, highest))
+}
+
+// The next words into a lent list. Questions 3, 4; a finished mark that is neither 0 nor 1 is no walk in order.
 #[no_mangle]
 pub extern "C" fn atlas_batch(walk: AtlasWalk, out: &mut [u64]) -> AtlasMoved
-    ensures { λ r. ⌜ (r ≡ movedIn (batchOf (walkFrom walk) (now (out .entry)) .walk) (batchOf (walkFrom walk) (now (out .entry)) .answer)) × (now (out .exit) ≡ batchOf (walkFrom walk) (now (out .entry)) .list) ⌝ }
+    ensures { λ r. ⌜ (r ≡ batchIn walk (now (out .entry)) .answer) × (now (out .exit) ≡ batchIn walk (now (out .entry)) .list) ⌝ }
 {
+    if 32 < walk.genus {
+        return unmoved_of(walk, Refusal::GenusTooLarge);
+    }
+    if 1 < walk.finished {
+        return unmoved_of(walk, Refusal::WalkOutOfOrder);
+    }
     let moved = walk::step(
         Walk {
             genus: walk.genus,
             word: walk.word,
-            finished: walk.finished,
+            lowest: walk.lowest,
+            highest: walk.highest,
+            finished: walk.finished == 1,
         },
         out,
     );

@@ -1,10 +1,27 @@
 -- `atlas::atlas_batch` meets its contract: what the step gives and leaves in the list, as a struct and the list. Assumes nothing.
-use mathlib.Core.Path.{ap, _∙_}
-use Rattle.walk.specs.Walks.{Ending}
-use Rattle.atlas.specs.Interface.{movedIn}
+use mathlib.Core.Path.{refl, sym, ap, _∙_}
 use borrow.Author.Needs.{needs}
+use borrow.Author.Tests.{le-leb, lt-leb}
+use Rattle.walk.specs.Walks.{Ending}
+use Rattle.atlas.specs.Interface.{movedIn, batchIn}
 use Rattle.atlas.proofs.atlas_batch.Statement.{statement}
 use Rattle.atlas.proofs.atlas_batch.Tie as tie
+
+unmoved-of-requires : tie.Need-unmoved-of-requires
+unmoved-of-requires c κs = search needs
+
+-- above genus 32
+returns : tie.Need-returns
+unfolding batchIn
+returns c = rw (lt-leb _ 32 (c .before .if1 .taken)) (c .unmoved-of .ensures, refl)
+
+unmoved-of-requires-2 : tie.Need-unmoved-of-requires-2
+unmoved-of-requires-2 c κs = search needs
+
+-- a finished mark that is neither 0 nor 1
+returns-2 : tie.Need-returns-2
+unfolding batchIn
+returns-2 c = rw (le-leb _ 32 (c .before .before .before .if1 .left), lt-leb _ 1 (c .before .if2 .taken)) (c .unmoved-of2 .ensures, refl)
 
 step-requires : tie.Need-step-requires
 step-requires c κs = search needs
@@ -15,10 +32,24 @@ moved-of-requires c κs = search needs
 same-length : tie.Need-same-length
 same-length c = search needs
 
-returns : tie.Need-returns
-returns c =
-    let made = c .before .before .before .before .step .ensures in
+returns-3 : tie.Need-returns-3
+unfolding batchIn
+returns-3 c =
+    let at-step = c .before .before .before .before in
+    let at-mark = at-step .before .before .before in
+    let made = at-step .step .ensures in
+    rw (le-leb _ 32 (at-mark .before .before .if1 .left), le-leb _ 1 (at-mark .if2 .left))
     (c .moved-of .ensures ∙ ap (λ (e : Ending). movedIn (e .walk) (e .answer)) made, ap (λ (e : Ending). e .list) made)
 
 pub atlas-batch-spec : {M : Type 1} → statement M
-atlas-batch-spec = tie.close (tie.spec step-requires moved-of-requires same-length returns)
+atlas-batch-spec =
+    tie.close
+    (tie.spec
+    unmoved-of-requires
+    returns
+    unmoved-of-requires-2
+    returns-2
+    step-requires
+    moved-of-requires
+    same-length
+    returns-3)

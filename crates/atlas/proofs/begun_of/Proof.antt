@@ -1,5 +1,4 @@
 -- `atlas::begun_of` meets its contract: the struct is computed from the case of the answer. Assumes nothing.
-use mathlib.Core.Bool.{false}
 use borrow.Author.Needs.{needs}
 use Rattle.atlas.proofs.begun_of.Statement.{statement}
 use Rattle.atlas.proofs.begun_of.Tie as tie
@@ -13,14 +12,18 @@ number-requires c κs = search needs
 enum-known-answer-2 : tie.Need-enum-known-answer-2
 enum-known-answer-2 c = search needs
 
+walk-of-requires : tie.Need-walk-of-requires
+walk-of-requires c κs = search needs
+
 returns : tie.Need-returns
 returns c =
     rw (c .before .before .answer .given .1)
-    (λ i. record { refused = c .number .ensures i; walk = record { genus = 0; word = 0; finished = false } })
+    (λ i. record { refused = c .number .ensures i; walk = record { genus = 0; word = 0; lowest = 0; highest = 0; finished = 0 } })
 
 returns-2 : tie.Need-returns-2
-returns-2 c = rw (c .before .answer2 .given .1)
+returns-2 c = rw (c .before .before .answer2 .given .1) (λ i. record { refused = 0; walk = c .walk-of .ensures i })
 
 pub begun-of-spec : {M : Type 1} → statement M
 begun-of-spec =
-    tie.close (tie.spec enum-known-answer number-requires enum-known-answer-2 returns returns-2)
+    tie.close
+    (tie.spec enum-known-answer number-requires enum-known-answer-2 walk-of-requires returns returns-2)
