@@ -1,6 +1,6 @@
-//! Random calls of the atlas, valid and damaged, against an implementation from the plain definitions: sets of numbers, sums of two
-//! elements, gap lists. It uses no bit tricks and no seed tables but those of definition 1.3. Prints the seed, the number of calls of each
-//! kind and the number of differences, which must be 0.
+//! Random calls of the atlas, valid and damaged, and walks of all small windows, against an implementation from the plain definitions: sets
+//! of numbers, sums of two elements, gap lists. It uses no bit tricks and no seed tables but those of definition 1.3. Prints the seed, the
+//! number of calls of each kind and the number of differences, which must be 0.
 
 // ---- the atlas, by its C interface (include/atlas.h)
 
@@ -25,7 +25,9 @@ struct Report {
 struct Walk {
     genus: u64,
     word: u64,
-    finished: bool,
+    lowest: u8,
+    highest: u8,
+    finished: u8,
 }
 
 #[repr(C)]
@@ -49,7 +51,9 @@ extern "C" {
     fn atlas_seed_table(word: u64) -> Number;
     fn atlas_child(word: u64, element: u64) -> Number;
     fn atlas_fresh(genus: u64) -> Begun;
+    fn atlas_fresh_in(genus: u64, lowest: u8, highest: u8) -> Begun;
     fn atlas_start(word: u64) -> Begun;
+    fn atlas_start_in(word: u64, lowest: u8, highest: u8) -> Begun;
     fn atlas_batch(walk: Walk, out: *mut u64, length: usize) -> Moved;
     fn atlas_count(word: u64, genus: u64) -> Number;
     fn atlas_generators(word: u64, out: *mut u8, length: usize) -> Number;
@@ -61,18 +65,38 @@ extern "C" {
 
 // ---- the plain definitions
 
-const NO_WALK: Walk = Walk {
-    genus: 0,
-    word: 0,
-    finished: false,
-};
-
 fn given(value: u64) -> Number {
     Number { refused: 0, value }
 }
 
 fn refused(refused: u64) -> Number {
     Number { refused, value: 0 }
+}
+
+/// The walk on a word, or the finished one where there is none.
+fn standing(genus: u64, word: Option<u64>, lowest: u8, highest: u8) -> Walk {
+    Walk {
+        genus,
+        word: word.unwrap_or(0),
+        lowest,
+        highest,
+        finished: word.is_none() as u8,
+    }
+}
+
+fn begun(walk: Walk) -> Begun {
+    Begun { refused: 0, walk }
+}
+
+fn not_begun(refused: u64) -> Begun {
+    let walk = Walk {
+        genus: 0,
+        word: 0,
+        lowest: 0,
+        highest: 0,
+        finished: 0,
+    };
+    Begun { refused, walk }
 }
 
 /// Is x in the set of the word?
@@ -113,6 +137,10 @@ fn conductor(word: u64) -> u64 {
 
 fn multiplicity(word: u64) -> u64 {
     (1..).find(|&x| holds(word, x)).unwrap()
+}
+
+fn within(word: u64, lowest: u8, highest: u8) -> bool {
+    (lowest as u64..=highest as u64).contains(&multiplicity(word))
 }
 
 fn generator(word: u64, x: u64) -> bool {
@@ -235,6 +263,22 @@ fn searched(g: u64) -> Vec<u64> {
     list
 }
 
+/// Adds the words of a window that are `left` levels below a word to a list, in list order, until it has `most`. A child has the gaps of
+/// its word and a larger one: below a word with a gap above its multiplicity all have this multiplicity, and outside the window none is in.
+fn below(word: u64, left: u64, lowest: u8, highest: u8, most: usize, list: &mut Vec<u64>) {
+    let inside = within(word, lowest, highest);
+    if list.len() >= most || !inside && conductor(word) > multiplicity(word) {
+        return;
+    }
+    if left > 0 {
+        for child in children(word) {
+            below(child, left - 1, lowest, highest, most, list);
+        }
+    } else if inside {
+        list.push(word);
+    }
+}
+
 // ---- random numbers
 
 struct Random(u64);
@@ -282,6 +326,47 @@ impl Words {
             4 => [0, u64::MAX, 1 << 63, 13, (1 << 33) - 1, (1 << 32) - 1, 6148914691236517205][r.below(7) as usize],
             _ => self.valid(r),
         }
+    }
+
+    /// The words of a window of a genus, the first `most` of them: by the list where it is at hand, else by the tree.
+    fn window(&self, genus: u64, lowest: u8, highest: u8, most: usize) -> Vec<u64> {
+        if let Some(list) = self.lists.get(genus as usize) {
+            return list.iter().copied().filter(|&w| within(w, lowest, highest)).take(most).collect();
+        }
+        let mut list = Vec::new();
+        below(0, genus, lowest, highest, most, &mut list);
+        list
+    }
+}
+
+/// All windows of some genera with bounds from 0 to `most`.
+fn every_window(genera: std::ops::RangeInclusive<u64>, most: u8) -> impl Iterator<Item = (u64, u8, u8)> {
+    genera.flat_map(move |genus| (0..=most).flat_map(move |lowest| (0..=most).map(move |highest| (genus, lowest, highest))))
+}
+
+/// A bound of a window.
+fn bound(r: &mut Random) -> u8 {
+    match r.below(8) {
+        0 => [0, 1, 2, 255][r.below(4) as usize],
+        1 => 30 + r.below(6) as u8,
+        2 => r.next() as u8,
+        _ => r.below(20) as u8,
+    }
+}
+
+/// The bounds of a window: most have the multiplicity m between them.
+fn bounds(m: u64, r: &mut Random) -> (u8, u8) {
+    let m = m as u8;
+    match r.below(16) {
+        0..=4 => (1, 33),
+        5 | 6 => (0, 255),
+        7 | 8 => (m, m),
+        9 | 10 => (m - r.below(2) as u8, m + r.below(2) as u8),
+        11 => (bound(r).min(m), m),
+        12 => (m, bound(r).max(m)),
+        13 => (m + 1, bound(r)),
+        14 => (bound(r), m - 1),
+        _ => (bound(r), bound(r)),
     }
 }
 
@@ -373,69 +458,134 @@ fn starts(n: u64, words: &Words, r: &mut Random) -> Kind {
     let mut kind = Kind::new("fresh, start");
     for _ in 0..n {
         let g = if r.below(8) == 0 { r.next() } else { r.below(40) };
-        let plain = if g > 32 {
-            Begun {
-                refused: 3,
-                walk: NO_WALK,
-            }
-        } else {
-            Begun {
-                refused: 0,
-                walk: Walk {
-                    genus: g,
-                    word: word_of(&(1..=g).collect::<Vec<_>>()),
-                    finished: false,
-                },
-            }
-        };
+        let plain = if g > 32 { not_begun(3) } else { begun(standing(g, Some(word_of(&(1..=g).collect::<Vec<_>>())), 1, 33)) };
         kind.same(unsafe { atlas_fresh(g) }, plain, &|| g.to_string());
         let w = words.any(r);
-        let plain = match word_refused(w) {
-            Some(q) => Begun {
-                refused: q,
-                walk: NO_WALK,
-            },
-            None => Begun {
-                refused: 0,
-                walk: Walk {
-                    genus: gaps(w).len() as u64,
-                    word: w,
-                    finished: false,
-                },
-            },
-        };
+        let plain = word_refused(w).map_or_else(|| begun(standing(gaps(w).len() as u64, Some(w), 1, 33)), not_begun);
         kind.same(unsafe { atlas_start(w) }, plain, &|| w.to_string());
     }
     kind
 }
 
-/// The words of the walk's genus list from its word on, at most `most` of them: by the list where it is at hand, else by the tree.
+/// Fresh walks in a window: single ones of genus 32, then random ones. Windows of some words and of none, and refusals, are met.
+fn fresh_ins(n: u64, words: &Words, r: &mut Random) -> Kind {
+    let mut kind = Kind::new("fresh in a window");
+    let ordinary = word_of(&(1..=32).collect::<Vec<_>>());
+    let hyperelliptic = word_of(&(1..=63).step_by(2).collect::<Vec<_>>());
+    for (lowest, highest, word) in [
+        (0, 255, Some(ordinary)),
+        (33, 33, Some(ordinary)),
+        (2, 2, Some(hyperelliptic)),
+        (1, 1, None),
+        (34, 255, None),
+    ] {
+        let plain = begun(standing(32, word, lowest, highest));
+        kind.same(unsafe { atlas_fresh_in(32, lowest, highest) }, plain, &|| format!("32 {lowest} {highest}"));
+    }
+    let mut met = [0u64; 4];
+    for _ in 0..n {
+        let g = match r.below(16) {
+            0 => r.next(),
+            1 => r.below(37),
+            _ => r.below(16),
+        };
+        let lowest = bound(r);
+        let highest = match r.below(4) {
+            0 => lowest,
+            1 => lowest.saturating_add(r.below(8) as u8),
+            _ => bound(r),
+        };
+        let plain = if g > 32 {
+            not_begun(3)
+        } else {
+            begun(standing(g, words.window(g, lowest, highest, 1).first().copied(), lowest, highest))
+        };
+        met[plain.refused as usize + plain.walk.finished as usize] += 1;
+        kind.same(unsafe { atlas_fresh_in(g, lowest, highest) }, plain, &|| format!("{g} {lowest} {highest}"));
+    }
+    assert!([0, 1, 3].iter().all(|&q| met[q] > n / 100), "each answer is met: {met:?}");
+    kind
+}
+
+/// Walks that start on a word in a window; refusals of each number are met.
+fn start_ins(n: u64, words: &Words, r: &mut Random) -> Kind {
+    let mut kind = Kind::new("start in a window");
+    let mut met = [0u64; 14];
+    for _ in 0..n {
+        let w = words.any(r);
+        let (lowest, highest) = bounds(multiplicity(w), r);
+        let answer = unsafe { atlas_start_in(w, lowest, highest) };
+        met[answer.refused as usize] += 1;
+        let plain = if let Some(q) = word_refused(w) {
+            not_begun(q)
+        } else if !within(w, lowest, highest) {
+            not_begun(4)
+        } else {
+            begun(standing(gaps(w).len() as u64, Some(w), lowest, highest))
+        };
+        kind.same(answer, plain, &|| format!("{w} {lowest} {highest}"));
+    }
+    assert!([0, 1, 2, 4].iter().all(|&q| met[q] > n / 100), "each answer is met: {met:?}");
+    kind
+}
+
+/// A batch of a walk that has these words still to give: how it ends, and the lent list afterwards.
+fn moved(walk: Walk, left: &[u64], mut lent: Vec<u64>) -> (Moved, Vec<u64>) {
+    let count = left.len().min(lent.len());
+    lent[..count].copy_from_slice(&left[..count]);
+    let next = left.get(count).copied();
+    let moved = Moved {
+        refused: 0,
+        walk: standing(walk.genus, next, walk.lowest, walk.highest),
+        count,
+        finished: next.is_none(),
+    };
+    (moved, lent)
+}
+
+/// Every window of the genera to 12 with bounds to 14, and of genus 32 with bounds to 4: from the fresh walk by batches of random lengths
+/// to its end, and one batch more.
+fn windows(words: &Words, r: &mut Random) -> Kind {
+    let mut kind = Kind::new("fresh and batch in every window");
+    for (genus, lowest, highest) in every_window(0..=12, 14).chain(every_window(32..=32, 4)) {
+        let all = words.window(genus, lowest, highest, usize::MAX);
+        let fresh = standing(genus, all.first().copied(), lowest, highest);
+        let answer = unsafe { atlas_fresh_in(genus, lowest, highest) };
+        kind.same(answer, begun(fresh), &|| format!("{genus} {lowest} {highest}"));
+        let mut walk = answer.walk;
+        let mut left = &all[..];
+        loop {
+            let finished = left.is_empty();
+            let lent: Vec<u64> = (0..r.below(9)).map(|_| r.next()).collect();
+            let mut ours = lent.clone();
+            let ending = unsafe { atlas_batch(walk, ours.as_mut_ptr(), ours.len()) };
+            let plain = moved(fresh, left, lent);
+            left = &left[plain.0.count..];
+            kind.same((ending, ours), plain, &|| format!("{walk:?}"));
+            if finished {
+                break;
+            }
+            walk = ending.walk;
+        }
+    }
+    kind
+}
+
+/// The words of the walk's window from its word on, at most `most` of them: by the list where it is at hand, else by the tree.
 fn rest(words: &Words, walk: Walk, most: usize) -> Vec<u64> {
-    if walk.finished {
+    if walk.finished == 1 {
         return Vec::new();
     }
     if let Some(list) = words.lists.get(walk.genus as usize) {
         let place = list.iter().position(|&w| w == walk.word).unwrap();
-        return list[place..].iter().copied().take(most).collect();
-    }
-    fn below(word: u64, left: usize, most: usize, list: &mut Vec<u64>) {
-        if list.len() >= most {
-            return;
-        }
-        if left == 0 {
-            list.push(word);
-            return;
-        }
-        for child in children(word) {
-            below(child, left - 1, most, list);
-        }
+        return list[place..].iter().copied().filter(|&w| within(w, walk.lowest, walk.highest)).take(most).collect();
     }
     let path = gaps(walk.word);
     let mut list = vec![walk.word];
     for i in (0..path.len()).rev() {
         for child in children(word_of(&path[..i])) {
             if child > word_of(&path[..=i]) {
-                below(child, path.len() - i - 1, most, &mut list);
+                below(child, (path.len() - i - 1) as u64, walk.lowest, walk.highest, most, &mut list);
             }
         }
     }
@@ -443,70 +593,52 @@ fn rest(words: &Words, walk: Walk, most: usize) -> Vec<u64> {
     list
 }
 
+/// Batches of random walks; an answer and refusals of each number are met.
 fn batches(n: u64, words: &Words, r: &mut Random) -> Kind {
     let mut kind = Kind::new("batch");
+    let mut met = [0u64; 14];
     for i in 0..n {
         let word = if i % 50 == 0 { words.any(r) } else { words.listed(14, r) };
-        let walk = match r.below(12) {
-            0 => Walk {
-                genus: r.below(50),
-                word,
-                finished: false,
-            },
-            1 => Walk {
-                genus: r.below(36),
-                word: 0,
-                finished: true,
-            },
-            2 => Walk {
-                genus: r.below(34),
-                word: r.below(3),
-                finished: r.below(2) == 0,
-            },
-            _ => Walk {
-                genus: gaps(word).len() as u64,
-                word,
-                finished: false,
-            },
+        let (lowest, highest) = bounds(multiplicity(word), r);
+        let (genus, word, finished) = match r.below(12) {
+            0 => (r.below(50), word, 0),
+            1 => (r.below(36), 0, 1),
+            2 => (r.below(34), r.below(3), r.below(2) as u8),
+            3 => (r.below(36), r.below(2) * word, [1, 2, 128, 255][r.below(4) as usize]),
+            4 => (gaps(word).len() as u64, word, [0, 0, 0, 1, 2, 255][r.below(6) as usize]),
+            _ => (gaps(word).len() as u64, word, 0),
+        };
+        let walk = Walk {
+            genus,
+            word,
+            lowest,
+            highest,
+            finished,
         };
         let length = [0, 1, 2, 3, 7, 20][r.below(6) as usize];
         let lent: Vec<u64> = (0..length).map(|_| r.next()).collect();
         let mut ours = lent.clone();
-        let moved = unsafe { atlas_batch(walk, ours.as_mut_ptr(), ours.len()) };
-        let in_order = if walk.finished {
-            walk.word == 0
-        } else {
-            word_refused(walk.word).is_none() && gaps(walk.word).len() as u64 == walk.genus
+        let ending = unsafe { atlas_batch(walk, ours.as_mut_ptr(), ours.len()) };
+        met[ending.refused as usize] += 1;
+        let in_order = match finished {
+            0 => word_refused(word).is_none() && gaps(word).len() as u64 == genus && within(word, lowest, highest),
+            1 => word == 0,
+            _ => false,
         };
-        let refusal = if walk.genus > 32 { 3 } else { 4 };
-        let plain = if walk.genus > 32 || !in_order {
-            Moved {
-                refused: refusal,
+        let plain = if genus > 32 || !in_order {
+            let unmoved = Moved {
+                refused: if genus > 32 { 3 } else { 4 },
                 walk,
                 count: 0,
                 finished: false,
-            }
+            };
+            (unmoved, lent)
         } else {
-            let list = rest(words, walk, length + 1);
-            let count = list.len().min(length);
-            let next = list.get(count);
-            Moved {
-                refused: 0,
-                walk: Walk {
-                    genus: walk.genus,
-                    word: next.copied().unwrap_or(0),
-                    finished: next.is_none(),
-                },
-                count,
-                finished: next.is_none(),
-            }
+            moved(walk, &rest(words, walk, length + 1), lent)
         };
-        let mut list = lent.clone();
-        if plain.refused == 0 {
-            list[..plain.count].copy_from_slice(&rest(words, walk, length)[..plain.count]);
-        }
-        kind.same((moved, ours), (plain, list), &|| format!("{walk:?} {length}"));
+        kind.same((ending, ours), plain, &|| format!("{walk:?} {length}"));
     }
+    assert!([0, 3, 4].iter().all(|&q| met[q] > n / 100), "each answer is met: {met:?}");
     kind
 }
 
@@ -679,12 +811,20 @@ fn main() {
         deep.push(w);
     }
     let words = Words { lists, deep };
+    for (g, lowest, highest) in every_window(0..=9, 11) {
+        let mut list = Vec::new();
+        below(0, g, lowest, highest, usize::MAX, &mut list);
+        assert!(list == words.window(g, lowest, highest, usize::MAX), "the window {lowest} to {highest} of genus {g} by the tree");
+    }
     let kinds = [
         looks(400_000, &words, &mut r),
         tables(100_000, &words, &mut r),
         childs(150_000, &words, &mut r),
         starts(60_000, &words, &mut r),
-        batches(100_000, &words, &mut r),
+        fresh_ins(20_000, &words, &mut r),
+        start_ins(60_000, &words, &mut r),
+        windows(&words, &mut r),
+        batches(200_000, &words, &mut r),
         counts(10_000, &words, &mut r),
         listed(Kind::new("generators"), atlas_generators, minimal_generators, 100_000, &words, &mut r),
         words_from(150_000, &words, &mut r),

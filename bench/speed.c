@@ -1,6 +1,6 @@
 /* Speed of the atlas as ratios: the count and the whole walk of a genus by batches of 4,096 words, ours against the paper's recursive
-   algorithm in C and against plain Rust, the same work on the same machine in one run; then calls on every word of a genus against the
-   walk of it. Each time is the least of several runs. */
+   algorithm in C and against plain Rust, the same work on the same machine in one run; then calls on every word of a genus, and the walk
+   of a window of it, against the walk of it. Each time is the least of several runs. */
 #include <inttypes.h>
 #include <stdio.h>
 #include <stdlib.h>
@@ -31,9 +31,8 @@ static uint64_t plain_counted(unsigned genus, uint64_t *out, size_t length, uint
   return plain_count(genus);
 }
 
-static uint64_t our_walk(unsigned genus, uint64_t *out, size_t length, uint64_t *mixed) {
+static uint64_t walked(atlas_walk walk, uint64_t *out, size_t length, uint64_t *mixed) {
   uint64_t total = 0, mix = 0;
-  atlas_walk walk = atlas_fresh(genus).walk;
   atlas_moved moved;
   do {
     moved = atlas_batch(walk, out, length);
@@ -43,6 +42,15 @@ static uint64_t our_walk(unsigned genus, uint64_t *out, size_t length, uint64_t 
   } while (!moved.refused && !moved.finished);
   *mixed = mix;
   return total;
+}
+
+static uint64_t our_walk(unsigned genus, uint64_t *out, size_t length, uint64_t *mixed) {
+  return walked(atlas_fresh(genus).walk, out, length, mixed);
+}
+
+/* The walk of the words of multiplicity 8. */
+static uint64_t our_window(unsigned genus, uint64_t *out, size_t length, uint64_t *mixed) {
+  return walked(atlas_fresh_in(genus, 8, 8).walk, out, length, mixed);
 }
 
 /* The walk of a genus with calls on each word of it. */
@@ -133,5 +141,10 @@ int main(void) {
   call_row("coordinates and back", 24, walk_back, walk);
   double single = time_of(our_walk, 20, 1, &total, &mixed);
   printf("a batch of length 1 at genus 20: %.0f ns\n", single / (double)total * 1e9);
+  uint64_t inside;
+  double window = time_of(our_window, 32, LENGTH, &inside, &mixed);
+  walk = time_of(our_walk, 32, LENGTH, &total, &mixed);
+  printf("window 8 to 8 of genus 32: %.6f of the time of the whole walk, %.6f of its words\n", window / walk,
+         (double)inside / (double)total);
   return 0;
 }
