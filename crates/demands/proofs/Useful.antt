@@ -23,7 +23,7 @@ use Rattle.windows.proofs.Cases.{known-windows}
 use Rattle.walk.specs.declared.Walk.{Walk}
 use Rattle.walk.specs.declared.Written.{Written}
 use Rattle.demands.specs.Demand3.{Atlas, atlas, Call, call, batches, wrote, lengths, N, AfterCall, Demanded, Demand3}
-use Rattle.demands.specs.Useful.{GenusAsked, WindowAsked, SameWords, FinishesEarly, WritesNothing, IdlesAfterFirst, UsefulCall, freshOfGenus, freshInWindow, IgnoresWindow, Useful, AcceptsExactly, RefusesEveryWord}
+use Rattle.demands.specs.Useful.{GenusAsked, WindowAsked, SameWhere, FinishesEarly, WritesNothing, IdlesAfterFirst, UsefulCall, freshOfGenus, freshInWindow, Useful, AcceptsExactly, RefusesEveryWord}
 use Rattle.demands.proofs.Demand3.{demand3}
 
 -- a list of length 1 to lend
@@ -84,11 +84,12 @@ module _ {Q : Type 0} (A : Atlas) (fresh : Q → Answer Walk) (list : Q → List
       let one : N (list q) (first q ∷ []) ≡ 1 = omega (arith, ap length e) in
       after-first q .words ∙ ap₂ take one e
 
-  -- so walks whose lists begin with different words do not write the same
-  not-same : (p q : Q) {x y : ℕ} {k l : List ℕ} → list p ≡ x ∷ k → list q ≡ y ∷ l → x ≢ y → SameWords A (begun p) (begun q) → ⊥
+  -- so two questions whose lists begin with different words are not given the same
+  not-same : (R : Q → Q → Type 0) (p q : Q) {x y : ℕ} {k l : List ℕ} → R p q → list p ≡ x ∷ k → list q ≡ y ∷ l → x ≢ y → SameWhere A fresh R → ⊥
   unfolding batches
-  not-same p q {x} {y} e f differ s =
-      let words : x ∷ [] ≡ y ∷ [] = sym (first-word p e) ∙ s (place ∷ []) ∙ first-word q f in
+  not-same R p q {x} {y} joins e f differ s =
+      let words : x ∷ [] ≡ y ∷ [] =
+      sym (first-word p e) ∙ s p q joins (begun p) (begun q) (answers p) (answers q) (place ∷ []) ∙ first-word q f in
       differ cc
 
   not-finishing-early : FinishesEarly A fresh list → ⊥
@@ -113,13 +114,12 @@ module _ {Q : Type 0} (A : Atlas) (fresh : Q → Answer Walk) (list : Q → List
         ap (λ (l : List ℕ). length (wrote (first q) ++ l)) idle,
       )
 
-  -- two questions whose lists begin with different words, the second with a list of two words or more
-  useful-call : (p q : Q) {x y : ℕ} {k l : List ℕ} → list p ≡ x ∷ k → list q ≡ y ∷ l → x ≢ y → 0 < length l → UsefulCall A fresh list
-  useful-call p q e f differ more = record {
-    not-same-for-all = λ s. not-same p q e f differ (s p q (begun p) (begun q) (answers p) (answers q));
+  -- q has a list of two words or more
+  useful-call : (q : Q) → 1 < length (list q) → UsefulCall A fresh list
+  useful-call q more = record {
     not-finishing-early = not-finishing-early;
-    not-writing-nothing = not-writing-nothing p (omega (arith, ap length e));
-    not-idling = not-idling q (omega (arith, ap length f));
+    not-writing-nothing = not-writing-nothing q (omega arith);
+    not-idling = not-idling q more;
   }
 
 -- ---- an atlas that meets demand 3
@@ -147,27 +147,24 @@ module _ (A : Atlas) (demand : Demand3 A) where
   abbrev whole : (g : ℕ) → g ≤ 32 → WindowAsked
   whole g h = windowIn g 1 33 h (omega arith) (omega arith)
 
-  -- the windows from 1 to 33 and from 3 to 4 of genus 4 begin with different words
-  not-ignoring-window : IgnoresWindow A → ⊥
-  not-ignoring-window s =
-      let p = whole 4 (omega arith) in
-      let q = windowIn 4 3 4 (omega arith) (omega arith) (omega arith) in
-      not-same A (freshInWindow A) listIn demanded-in-window p q (known-windows .2) (known-windows .1) (λ e. omega arith)
-      (s p q refl (begun A (freshInWindow A) listIn demanded-in-window p) (begun A (freshInWindow A) listIn demanded-in-window q)
-      (answers A (freshInWindow A) listIn demanded-in-window p) (answers A (freshInWindow A) listIn demanded-in-window q))
-
   pub useful : Useful A
   useful =
       let zero : 0 ≤ 32 = omega arith in
       let two : 2 ≤ 32 = omega arith in
+      let four : 4 ≤ 32 = omega arith in
+      let genus-0 = known-list 0 (omega arith) in
+      let genus-2 = known-list 2 (omega arith) in
+      let whole-2 = window-whole 2 two ∙ genus-2 in
       record {
-        of-genus =
-            useful-call A (freshOfGenus A) (λ q. genusList (q .genus)) demanded-of-genus (genusOf 0 zero) (genusOf 2 two)
-            (known-list 0 (omega arith)) (known-list 2 (omega arith)) (λ e. omega arith) (omega arith);
-        in-window =
-            useful-call A (freshInWindow A) listIn demanded-in-window (whole 0 zero) (whole 2 two)
-            (window-whole 0 zero ∙ known-list 0 (omega arith)) (window-whole 2 two ∙ known-list 2 (omega arith)) (λ e. omega arith) (omega arith);
-        not-ignoring-window = not-ignoring-window;
+        of-genus = useful-call A (freshOfGenus A) (λ q. genusList (q .genus)) demanded-of-genus (genusOf 2 two) (omega (arith, ap length genus-2));
+        in-window = useful-call A (freshInWindow A) listIn demanded-in-window (whole 2 two) (omega (arith, ap length whole-2));
+        not-same-for-all =
+            not-same A (freshOfGenus A) (λ q. genusList (q .genus)) demanded-of-genus _ (genusOf 0 zero) (genusOf 2 two) tt genus-0 genus-2 (λ e. omega arith);
+        not-ignoring-genus =
+            not-same A (freshInWindow A) listIn demanded-in-window _ (whole 0 zero) (whole 2 two) (refl, refl) (window-whole 0 zero ∙ genus-0) whole-2 (λ e. omega arith);
+        -- the windows from 1 to 33 and from 3 to 4 of genus 4 begin with 15 and 23
+        not-ignoring-window =
+            not-same A (freshInWindow A) listIn demanded-in-window _ (whole 4 four) (windowIn 4 3 4 four (omega arith) (omega arith)) refl (known-windows .2) (known-windows .1) (λ e. omega arith);
         not-inventing = λ (g, small, other).
             let d = demand .of-genus g small [] in
             other (d .count-answers ∙ ap given (d .demanded .how-many));

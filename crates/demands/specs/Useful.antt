@@ -35,12 +35,12 @@ pub record WindowAsked : Type 0 where
 abbrev pub SameWords : Atlas → Walk → Walk → Type 0
 SameWords A v w = (lents : List (List ℕ)) → joined wrote (batches A v lents) ≡ joined wrote (batches A w lents)
 
+-- one whose fresh call prints the same list whichever of two questions that stand in the relation R it is asked
+abbrev pub SameWhere : {Q : Type 0} → Atlas → (Q → Answer Walk) → (Q → Q → Type 0) → Type 0
+SameWhere {Q} A fresh R = (p q : Q) → R p q → (v w : Walk) → fresh p ≡ given v → fresh q ≡ given w → SameWords A v w
+
 -- a fresh call, whatever it is asked, and the lists that its walks are to give
 module _ {Q : Type 0} (A : Atlas) (fresh : Q → Answer Walk) (list : Q → List ℕ) where
-  -- one that prints the same list whatever it is asked
-  abbrev pub SameForAll : Type 0
-  SameForAll = (p q : Q) (v w : Walk) → fresh p ≡ given v → fresh q ≡ given w → SameWords A v w
-
   -- one that says finished too early: before some word of the list was written
   pub record FinishesEarly : Type 0 where
     pub asked : Q
@@ -67,9 +67,8 @@ module _ {Q : Type 0} (A : Atlas) (fresh : Q → Answer Walk) (list : Q → List
   IdlesAfterFirst = (q : Q) (w : Walk) → fresh q ≡ given w
       → (lents : List (List ℕ)) (first : Call) (others : List Call) → batches A w lents ≡ first ∷ others → joined wrote others ≡ []
 
-  -- none of the four
+  -- none of the three
   pub record UsefulCall : Type 0 where
-    pub not-same-for-all : SameForAll → ⊥
     pub not-finishing-early : FinishesEarly → ⊥
     pub not-writing-nothing : WritesNothing → ⊥
     pub not-idling : IdlesAfterFirst → ⊥
@@ -81,10 +80,16 @@ freshOfGenus A q = A .fresh (q .genus)
 abbrev pub freshInWindow : Atlas → WindowAsked → Answer Walk
 freshInWindow A q = A .freshIn (q .of .genus) (q .lowest) (q .highest)
 
+-- one that prints the same list for all genera, by either call
+abbrev pub SameForAll : Atlas → Type 0
+SameForAll A = SameWhere A (freshOfGenus A) (λ p q. Unit {0})
+
+abbrev pub IgnoresGenus : Atlas → Type 0
+IgnoresGenus A = SameWhere A (freshInWindow A) (λ p q. (p .lowest ≡ q .lowest) × (p .highest ≡ q .highest))
+
 -- one that prints the same list for all windows of a genus
 abbrev pub IgnoresWindow : Atlas → Type 0
-IgnoresWindow A = (p q : WindowAsked) → p .of .genus ≡ q .of .genus → (v w : Walk) → freshInWindow A p ≡ given v → freshInWindow A q ≡ given w
-    → SameWords A v w
+IgnoresWindow A = SameWhere A (freshInWindow A) (λ p q. p .of .genus ≡ q .of .genus)
 
 -- one with an invented count
 abbrev pub InventsCount : Atlas → Type 0
@@ -94,6 +99,8 @@ InventsCount A = (g : ℕ) × (g ≤ 32) × (A .count 0 g ≡ given (length (gen
 pub record Useful (A : Atlas) : Type 0 where
   pub of-genus : UsefulCall A (freshOfGenus A) (λ q. genusList (q .genus))
   pub in-window : UsefulCall A (freshInWindow A) (λ q. windowList (q .of .genus) (q .lowest) (q .highest))
+  pub not-same-for-all : SameForAll A → ⊥
+  pub not-ignoring-genus : IgnoresGenus A → ⊥
   pub not-ignoring-window : IgnoresWindow A → ⊥
   pub not-inventing : InventsCount A → ⊥
 

@@ -10,7 +10,7 @@ use lib.Dec.{eqb}
 use lib.ListN.{length, take}
 use borrow.Author.Tests.{ne-eqb, eqb-true, eqb-false, le-leb, lt-leb}
 use Rattle.words.specs.Lists.{none, run, keep}
-use Rattle.words.specs.Words.{setOf, gaps, genus, wordOf, closed}
+use Rattle.words.specs.Words.{setOf, gaps, genus, wordOf}
 use Rattle.words.specs.Elements.{multiplicity}
 use Rattle.words.specs.GenusList.{Before, Earlier}
 use Rattle.words.specs.Answers.{refused, given}
@@ -22,11 +22,11 @@ use Rattle.words.proofs.Words.{gaps-list, gaps-mem, gaps-of-word}
 use Rattle.words.proofs.Closure.{closed-iff}
 use Rattle.words.proofs.Elements.{multiplicity-in, multiplicity-pos, multiplicity-le-genus}
 use Rattle.words.proofs.GenusList.{WordOfGenus}
-use Rattle.windows.specs.Windows.{windowList, notDivided}
+use Rattle.windows.specs.Windows.{windowList, leastMultiplicity, notDivided}
 use Rattle.windows.specs.Answers.{firstIn, firstOf}
 use Rattle.windows.proofs.Falling.{earlier-multiplicity}
 use Rattle.windows.proofs.Windows.{window-mem, mem-window, window-ordered}
-use Rattle.windows.proofs.NotDivided.{free, freeTo, divided-list, divided-fits, divided-genus, divided-multiplicity, enough-for}
+use Rattle.windows.proofs.NotDivided.{undivided, undividedTo, divided-list, divided-fits, divided-genus, divided-multiplicity, enough-for}
 
 -- no rising list of numbers that pass a test comes before as many of the first that pass
 first-kept : (p : ℕ → Bool) {hi : ℕ} (a n : ℕ) (l : List ℕ) → Rising a hi l → ((x : ℕ) → List·Memᴰ x l → p x ≡ true)
@@ -51,26 +51,26 @@ first-kept p a (suc n) (x ∷ l) r h b =
 -- ---- windows
 
 -- no gap is a multiple of the multiplicity
-gap-free : (g w : ℕ) → WordOfGenus g w → (x : ℕ) → List·Memᴰ x (gaps w) → x % multiplicity w ≡ 0 → ⊥
+gap-no-multiple : (g w : ℕ) → WordOfGenus g w → (x : ℕ) → List·Memᴰ x (gaps w) → x % multiplicity w ≡ 0 → ⊥
 unfolding setOf
-gap-free g w o x i e =
+gap-no-multiple g w o x i e =
     let m : ℕ = multiplicity w in
     let multiple : m * (x / m) ≡ x = omega (arith, div-add-mod x m) in
     not-both (multiples-in (setOf w) refl (closed-iff w (o .fits) .0 (o .closed)) m (multiplicity-in w (o .fits)) (x / m))
     (ap (setOf w) multiple ∙ gaps-mem w i)
 
 -- so that only genus 0 has multiplicity 1
-multiplicity-low : (g w : ℕ) → WordOfGenus g w → suc (min g 1) ≤ multiplicity w
+pub multiplicity-low : (g w : ℕ) → WordOfGenus g w → leastMultiplicity g ≤ multiplicity w
 unfolding genus
 multiplicity-low zero w o = omega (arith, multiplicity-pos w (o .fits))
 multiplicity-low (suc g) w o =
     lt-of-not-le (λ l.
     let one : multiplicity w ≡ 1 = omega (arith, multiplicity-pos w (o .fits)) in
-    let none : gaps w ≡ [] = nothing (gaps w) (λ x i. gap-free (suc g) w o x i (ap (λ (k : ℕ). x % k) one ∙ mod-one x)) in
+    let none : gaps w ≡ [] = nothing (gaps w) (λ x i. gap-no-multiple (suc g) w o x i (ap (λ (k : ℕ). x % k) one ∙ mod-one x)) in
     omega (arith, o .gapped, ap length none))
 
 -- the first word of a window: of the words with its largest multiplicity m, none has gaps before the first numbers that m does not divide
-pub window-first : (g lo hi m : ℕ) → g ≤ 32 → m ≡ min hi (g + 1) → lo ≤ m → suc (min g 1) ≤ m → (l : List ℕ) × (windowList g lo hi ≡ wordOf (notDivided g m) ∷ l)
+pub window-first : (g lo hi m : ℕ) → g ≤ 32 → m ≡ min hi (g + 1) → lo ≤ m → leastMultiplicity g ≤ m → (l : List ℕ) × (windowList g lo hi ≡ wordOf (notDivided g m) ∷ l)
 unfolding notDivided genus
 window-first g lo hi m h e low two =
     let (k, enough) = enough-for g m h two (omega arith) in
@@ -81,11 +81,11 @@ window-first g lo hi m h e low two =
     (λ v i b.
     let (o, from, to) = window-mem g lo hi i in
     let most : multiplicity v ≡ m = omega (arith, multiplicity-le-genus v (o .fits), o .gapped, earlier-multiplicity v w (o .fits) (divided-fits g m k enough) b) in
-    first-kept (free m) 1 64 (gaps v) (gaps-list v) (λ x j. ap not (ne-eqb (x % m) 0 (λ z. gap-free g v o x j (ap (λ (n : ℕ). x % n) most ∙ z))))
-    (subst (Before (gaps v)) (gaps-of-word (notDivided g m) (divided-list g m k enough) ∙ ap (λ (n : ℕ). take n (freeTo m 64)) (sym (o .gapped))) b))
+    first-kept (undivided m) 1 64 (gaps v) (gaps-list v) (λ x j. ap not (ne-eqb (x % m) 0 (λ z. gap-no-multiple g v o x j (ap (λ (n : ℕ). x % n) most ∙ z))))
+    (subst (Before (gaps v)) (gaps-of-word (notDivided g m) (divided-list g m k enough) ∙ ap (λ (n : ℕ). take n (undividedTo m 64)) (sym (o .gapped))) b))
 
 -- a window with no multiplicity that a semigroup of genus g can have holds none
-pub window-none : (g lo hi : ℕ) → (min hi (g + 1) < lo) ⊎ (min hi (g + 1) < suc (min g 1)) → windowList g lo hi ≡ []
+pub window-none : (g lo hi : ℕ) → (min hi (g + 1) < lo) ⊎ (min hi (g + 1) < leastMultiplicity g) → windowList g lo hi ≡ []
 window-none g lo hi h =
     nothing (windowList g lo hi) (λ v i.
     let (o, from, to) = window-mem g lo hi i in
@@ -100,12 +100,12 @@ unfolding firstOf
 first-refused g lo hi h = simp (lt-leb g 32 h)
 
 -- a window that holds none
-pub first-none : (g lo hi : ℕ) → g ≤ 32 → (min hi (g + 1) < lo) ⊎ (min hi (g + 1) < suc (min g 1)) → firstOf g lo hi ≡ given record { word = 0; empty = true }
+pub first-none : (g lo hi : ℕ) → g ≤ 32 → (min hi (g + 1) < lo) ⊎ (min hi (g + 1) < leastMultiplicity g) → firstOf g lo hi ≡ given record { word = 0; empty = true }
 unfolding firstOf firstIn none
 first-none g lo hi h k = simp (le-leb g 32 h, window-none g lo hi k)
 
 -- a window that holds a word
-pub first-given : (g lo hi m : ℕ) → g ≤ 32 → m ≡ min hi (g + 1) → lo ≤ m → suc (min g 1) ≤ m
+pub first-given : (g lo hi m : ℕ) → g ≤ 32 → m ≡ min hi (g + 1) → lo ≤ m → leastMultiplicity g ≤ m
     → firstOf g lo hi ≡ given record { word = wordOf (notDivided g m); empty = false }
 unfolding firstOf firstIn none
 first-given g lo hi m h e low two = let (l, s) = window-first g lo hi m h e low two in simp (le-leb g 32 h, s)

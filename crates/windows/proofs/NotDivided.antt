@@ -11,8 +11,8 @@ use lib.ListN.{length, take, length-append}
 use lib.Pow.{pow-add, pow-mono, suc-ones}
 use lib.Seq.{take-at}
 use borrow.Author.Tests.{eq-eqb, ne-eqb, eqb-true, not-true}
-use Rattle.words.specs.Lists.{none, run, keep, Ordered}
-use Rattle.words.specs.Words.{setOf, genus, wordOf, closed}
+use Rattle.words.specs.Lists.{run, keep, Ordered}
+use Rattle.words.specs.Words.{setOf, genus, wordOf}
 use Rattle.words.specs.Elements.{multiplicity}
 use Rattle.words.proofs.Booleans.{not-both, is-true, by-value}
 use Rattle.words.proofs.Lists.{run-mem, mem-run, ordered-run, run-append, length-run, keep-mem, mem-keep, keep-append, keep-more-out, ordered-keep}
@@ -22,15 +22,15 @@ use Rattle.words.proofs.Closure.{closed-iff}
 use Rattle.words.proofs.Elements.{multiplicity-in, multiplicity-pos, multiplicity-least}
 use Rattle.words.proofs.GenusList.{WordOfGenus}
 use Rattle.words.proofs.First.{word-of-run}
-use Rattle.windows.specs.Windows.{notDivided}
+use Rattle.windows.specs.Windows.{leastMultiplicity, notDivided}
 
 -- m does not divide x
-abbrev pub free : ℕ → ℕ → Bool
-free m x = not (eqb (x % m) 0)
+abbrev pub undivided : ℕ → ℕ → Bool
+undivided m x = not (eqb (x % m) 0)
 
 -- the numbers from 1 to k that m does not divide
-abbrev pub freeTo : ℕ → ℕ → List ℕ
-freeTo m k = keep (free m) (run 1 k)
+abbrev pub undividedTo : ℕ → ℕ → List ℕ
+undividedTo m k = keep (undivided m) (run 1 k)
 
 -- 1 + 2 ^ m + .. + 2 ^ (m * (n - 1))
 powers : ℕ → ℕ → ℕ
@@ -41,9 +41,9 @@ powers m (suc n) = powers m n + 2 ^ (m * n)
 
 module _ (d : ℕ) where
   -- m divides none of the first d of a row
-  row : (n r : ℕ) → r ≤ d → keep (free (suc d)) (run (suc (suc d * n)) r) ≡ run (suc (suc d * n)) r
+  row : (n r : ℕ) → r ≤ d → keep (undivided (suc d)) (run (suc (suc d * n)) r) ≡ run (suc (suc d * n)) r
   row n r h =
-      keep-all (free (suc d)) (run (suc (suc d * n)) r) (λ x m.
+      keep-all (undivided (suc d)) (run (suc (suc d * n)) r) (λ x m.
       let b = run-mem (suc (suc d * n)) r m in
       let (j, e) = le-dest (b .0) in
       let place : x ≡ suc d * n + suc j = omega arith in
@@ -51,48 +51,48 @@ module _ (d : ℕ) where
       ap not (ne-eqb (x % suc d) 0 (λ z. omega arith)))
 
   -- the numbers up to m * n + r that m does not divide
-  kept-row : (n r : ℕ) → r ≤ d → freeTo (suc d) (suc d * n + r) ≡ freeTo (suc d) (suc d * n) ++ run (suc (suc d * n)) r
+  kept-row : (n r : ℕ) → r ≤ d → undividedTo (suc d) (suc d * n + r) ≡ undividedTo (suc d) (suc d * n) ++ run (suc (suc d * n)) r
   kept-row n r h =
       let next : 1 + suc d * n ≡ suc (suc d * n) = omega arith in
-      ap (keep (free (suc d))) (run-append 1 (suc d * n) r ∙ ap (λ (a : ℕ). run 1 (suc d * n) ++ run a r) next)
-      ∙ keep-append (free (suc d)) (run 1 (suc d * n)) (run (suc (suc d * n)) r)
-      ∙ ap (λ (l : List ℕ). freeTo (suc d) (suc d * n) ++ l) (row n r h)
+      ap (keep (undivided (suc d))) (run-append 1 (suc d * n) r ∙ ap (λ (a : ℕ). run 1 (suc d * n) ++ run a r) next)
+      ∙ keep-append (undivided (suc d)) (run 1 (suc d * n)) (run (suc (suc d * n)) r)
+      ∙ ap (λ (l : List ℕ). undividedTo (suc d) (suc d * n) ++ l) (row n r h)
 
   -- the numbers up to m * (n + 1): m divides the last
-  kept-next : (n : ℕ) → freeTo (suc d) (suc d * suc n) ≡ freeTo (suc d) (suc d * n) ++ run (suc (suc d * n)) d
+  kept-next : (n : ℕ) → undividedTo (suc d) (suc d * suc n) ≡ undividedTo (suc d) (suc d * n) ++ run (suc (suc d * n)) d
   kept-next n =
       let more : suc d * suc n ≡ suc d * n + d + 1 = omega (arith, mul-suc (suc d) n) in
       let last : 1 + (suc d * n + d) ≡ suc d * suc n = omega arith in
-      ap (freeTo (suc d)) more
-      ∙ keep-more-out (free (suc d)) 1 (suc d * n + d) (ap not (eq-eqb _ 0 (ap (λ (y : ℕ). y % suc d) last ∙ mul-mod-right (suc d) (suc n))))
+      ap (undividedTo (suc d)) more
+      ∙ keep-more-out (undivided (suc d)) 1 (suc d * n + d) (ap not (eq-eqb _ 0 (ap (λ (y : ℕ). y % suc d) last ∙ mul-mod-right (suc d) (suc n))))
       ∙ kept-row n d (omega arith)
 
   -- d for each row
-  kept-length : (n : ℕ) → length (freeTo (suc d) (suc d * n)) ≡ d * n
+  kept-length : (n : ℕ) → length (undividedTo (suc d) (suc d * n)) ≡ d * n
   unfolding run keep
-  kept-length zero = ap (λ (k : ℕ). length (freeTo (suc d) k)) (mul-zero (suc d)) ∙ sym (mul-zero d)
+  kept-length zero = ap (λ (k : ℕ). length (undividedTo (suc d) k)) (mul-zero (suc d)) ∙ sym (mul-zero d)
   kept-length (suc n) =
       omega (
         arith,
         ap length (kept-next n),
-        length-append (freeTo (suc d) (suc d * n)) (run (suc (suc d * n)) d),
+        length-append (undividedTo (suc d) (suc d * n)) (run (suc (suc d * n)) d),
         length-run (suc (suc d * n)) d,
         kept-length n,
         mul-suc d n,
       )
 
   -- their word: all bits below m * n but those of the multiples
-  kept-word : (n : ℕ) → wordOf (freeTo (suc d) (suc d * n)) + powers (suc d) n * 2 ^ d + 1 ≡ 2 ^ (suc d * n)
+  kept-word : (n : ℕ) → wordOf (undividedTo (suc d) (suc d * n)) + powers (suc d) n * 2 ^ d + 1 ≡ 2 ^ (suc d * n)
   unfolding run keep wordOf powers
   kept-word zero =
       let none : suc d * 0 ≡ 0 = mul-zero (suc d) in
-      omega (arith, ap (λ (k : ℕ). wordOf (freeTo (suc d) k)) none, ap (λ (k : ℕ). 2 ^ k) none, zero-mul (2 ^ d))
+      omega (arith, ap (λ (k : ℕ). wordOf (undividedTo (suc d) k)) none, ap (λ (k : ℕ). 2 ^ k) none, zero-mul (2 ^ d))
   kept-word (suc n) =
       let a : ℕ = suc d * n in
       let next : suc d * suc n ≡ suc (a + d) = omega (arith, mul-suc (suc d) n) in
       omega (
         arith,
-        ap wordOf (kept-next n) ∙ word-append (freeTo (suc d) a) (run (suc a) d),
+        ap wordOf (kept-next n) ∙ word-append (undividedTo (suc d) a) (run (suc a) d),
         word-of-run a d,
         kept-word n,
         add-mul (powers (suc d) n) (2 ^ a) (2 ^ d),
@@ -126,27 +126,27 @@ module _ (g d : ℕ) (pos : 0 < d) where
   last : suc g + g / d ≡ suc d * (g / d) + suc (g % d)
   last = omega (arith, suc-mul d (g / d), div-add-mod g d)
 
-  parts : freeTo (suc d) (suc g + g / d) ≡ freeTo (suc d) (suc d * (g / d)) ++ run (suc (suc d * (g / d))) (suc (g % d))
-  parts = ap (freeTo (suc d)) last ∙ kept-row d (g / d) (suc (g % d)) (mod-lt g pos)
+  parts : undividedTo (suc d) (suc g + g / d) ≡ undividedTo (suc d) (suc d * (g / d)) ++ run (suc (suc d * (g / d))) (suc (g % d))
+  parts = ap (undividedTo (suc d)) last ∙ kept-row d (g / d) (suc (g % d)) (mod-lt g pos)
 
   -- they are g + 1
-  parts-length : length (freeTo (suc d) (suc g + g / d)) ≡ suc g
+  parts-length : length (undividedTo (suc d) (suc g + g / d)) ≡ suc g
   parts-length =
       omega (
         arith,
         ap length parts,
-        length-append (freeTo (suc d) (suc d * (g / d))) (run (suc (suc d * (g / d))) (suc (g % d))),
+        length-append (undividedTo (suc d) (suc d * (g / d))) (run (suc (suc d * (g / d))) (suc (g % d))),
         length-run (suc (suc d * (g / d))) (suc (g % d)),
         kept-length d (g / d),
         div-add-mod g d,
       )
 
   -- their word
-  parts-word : wordOf (freeTo (suc d) (suc g + g / d)) + powers (suc d) (g / d) * 2 ^ d + 1 ≡ 2 ^ (suc g + g / d)
+  parts-word : wordOf (undividedTo (suc d) (suc g + g / d)) + powers (suc d) (g / d) * 2 ^ d + 1 ≡ 2 ^ (suc g + g / d)
   parts-word =
       omega (
         arith,
-        ap wordOf parts ∙ word-append (freeTo (suc d) (suc d * (g / d))) (run (suc (suc d * (g / d))) (suc (g % d))),
+        ap wordOf parts ∙ word-append (undividedTo (suc d) (suc d * (g / d))) (run (suc (suc d * (g / d))) (suc (g % d))),
         word-of-run (suc d * (g / d)) (suc (g % d)),
         kept-word d (g / d),
         ap (λ (k : ℕ). 2 ^ k) last,
@@ -159,24 +159,24 @@ pub record Enough (g m k : ℕ) : Type 0 where
   pub pos : 0 < m
   pub few : k ≤ 64
   pub all-below : m ≤ k + 1
-  pub number : length (freeTo m k) ≡ g
+  pub number : length (undividedTo m k) ≡ g
 
 module _ (g m k : ℕ) (enough : Enough g m k) where
   -- the first g that m does not divide are those up to k
-  passed : notDivided g m ≡ freeTo m k
+  passed : notDivided g m ≡ undividedTo m k
   unfolding notDivided
   passed =
       let (j, e) = le-dest (enough .few) in
-      ap (λ (n : ℕ). take g (freeTo m n)) (sym e)
-      ∙ ap (take g) (ap (keep (free m)) (run-append 1 k j) ∙ keep-append (free m) (run 1 k) (run (1 + k) j))
-      ∙ take-at (freeTo m k) (keep (free m) (run (1 + k) j)) g (enough .number)
+      ap (λ (n : ℕ). take g (undividedTo m n)) (sym e)
+      ∙ ap (take g) (ap (keep (undivided m)) (run-append 1 k j) ∙ keep-append (undivided m) (run 1 k) (run (1 + k) j))
+      ∙ take-at (undividedTo m k) (keep (undivided m) (run (1 + k) j)) g (enough .number)
 
   -- they are gaps in order
   pub divided-list : GapList 1 (notDivided g m)
   divided-list = record {
-    ordered = subst (Ordered _<_) (sym passed) (ordered-keep _<_ (free m) (run 1 k) (ordered-run 1 k));
+    ordered = subst (Ordered _<_) (sym passed) (ordered-keep _<_ (undivided m) (run 1 k) (ordered-run 1 k));
     within = λ x i.
-        let b = run-mem 1 k (keep-mem (free m) (run 1 k) (subst (List·Memᴰ x) passed i) .0) in
+        let b = run-mem 1 k (keep-mem (undivided m) (run 1 k) (subst (List·Memᴰ x) passed i) .0) in
         omega (arith, enough .few);
   }
 
@@ -187,7 +187,7 @@ module _ (g m k : ℕ) (enough : Enough g m k) where
   -- a gap of the word is at most k and no multiple of m
   gap-not : (x : ℕ) → setOf (wordOf (notDivided g m)) x ≡ false → (x ≤ k) × (x % m ≡ 0 → ⊥)
   gap-not x e =
-      let (i, t) = keep-mem (free m) (run 1 k) (subst (List·Memᴰ x) passed (word-gaps {lo = 0} (notDivided g m) divided-list .all x e)) in
+      let (i, t) = keep-mem (undivided m) (run 1 k) (subst (List·Memᴰ x) passed (word-gaps {lo = 0} (notDivided g m) divided-list .all x e)) in
       let b = run-mem 1 k i in
       (omega arith, λ z. not-both (eq-eqb (x % m) 0 z) (not-true _ t))
 
@@ -197,7 +197,7 @@ module _ (g m k : ℕ) (enough : Enough g m k) where
   in-multiple (suc x) h e =
       by-value (eqb (suc x % m) 0) (eqb-true _ _)
       (λ f. absurd (not-both e (word-gaps {lo = 0} (notDivided g m) divided-list .missed (suc x)
-      (subst (List·Memᴰ (suc x)) (sym passed) (mem-keep (free m) (run 1 k) (mem-run 1 k (omega arith) (omega arith)) (ap not f))))))
+      (subst (List·Memᴰ (suc x)) (sym passed) (mem-keep (undivided m) (run 1 k) (mem-run 1 k (omega arith) (omega arith)) (ap not f))))))
 
   -- so that sums of elements are elements, and it is a word of genus g
   pub divided-genus : WordOfGenus g (wordOf (notDivided g m))
@@ -246,7 +246,7 @@ not-divided-word (suc g) (suc d) low h two high =
     (parts-word g d (omega arith))
 
 -- for each multiplicity that a semigroup of genus g can have some number is enough
-pub enough-for : (g m : ℕ) → g ≤ 32 → suc (min g 1) ≤ m → m ≤ g + 1 → (k : ℕ) × Enough g m k
+pub enough-for : (g m : ℕ) → g ≤ 32 → leastMultiplicity g ≤ m → m ≤ g + 1 → (k : ℕ) × Enough g m k
 unfolding run keep
 enough-for zero m h low high = (0, record { pos = omega arith; few = omega arith; all-below = omega arith; number = refl })
 enough-for (suc g) zero h low high = absurd (omega arith)

@@ -1,6 +1,6 @@
 -- Windows of multiplicities: the semigroups of a genus whose multiplicity lies between two bounds, and the first of them. Assumes
 -- nothing: these are definitions.
-use Prim.Native.Nat.{ℕ, _%_, _≤_}
+use Prim.Native.Nat.{ℕ, suc, _%_, _≤_, min}
 use mathlib.Core.Bool.{Bool, not, _&&_}
 use mathlib.Core.List.{List}
 use lib.Dec.{eqb, leb}
@@ -32,6 +32,10 @@ InWindow g lo hi S = NumericalSemigroup S × HasGenus S g × MultiplicityWithin 
 -- l has the words of all these and no other, in list order, each exactly once
 abbrev pub AllInWindow : ℕ → ℕ → ℕ → List ℕ → Type 0
 AllInWindow g lo hi = AllOf (InWindow g lo hi)
+
+-- the least multiplicity that a semigroup of genus g can have; the largest is g + 1
+abbrev pub leastMultiplicity : ℕ → ℕ
+leastMultiplicity g = suc (min g 1)
 
 -- the first g numbers from 1 on that m does not divide: for g at most 32 and m at least 2 they are among the first 64
 unfoldable pub notDivided : ℕ → ℕ → List ℕ
