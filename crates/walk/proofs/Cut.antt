@@ -32,10 +32,12 @@ module _ (r w row d : ℕ) (at : Levels (suc r) w) (offsets : Offsets w (above r
       let (l, s, fits) = leaf-below r w at (offsets i j) n in
       multiplicity-stays w v (conductor w + i) l (at .fits) s fits (omega (arith, above-high row d j, multiplicity-le-conductor w (at .fits)))
 
+  -- with less than lo, none has it
   cut : (lo : ℕ) → multiplicity w < lo → fromMultiplicity lo (branches r w (above row d)) ≡ []
   unfolding fromMultiplicity
   cut lo h = keep-none (λ v. leb lo (multiplicity v)) _ (λ v m. ap (leb lo) (later-multiplicity m) ∙ lt-leb lo (multiplicity w) h)
 
+  -- with at least lo, all have it
   uncut : (lo : ℕ) → lo ≤ multiplicity w → fromMultiplicity lo (branches r w (above row d)) ≡ branches r w (above row d)
   unfolding fromMultiplicity
   uncut lo h = keep-all (λ v. leb lo (multiplicity v)) _ (λ v m. ap (leb lo) (later-multiplicity m) ∙ le-leb lo (multiplicity w) h)
@@ -49,21 +51,24 @@ module _ (lo r : ℕ) (n : Node) (v d : ℕ) (b : Below r n v d) where
   abbrev later : List ℕ
   later = branches (r - 1) (n .word) (above (firstRow n) d)
 
-  parts : fromMultiplicity lo (onFrom v (leaves r (n .word)))
+  -- in two parts
+  pub later-parts : fromMultiplicity lo (onFrom v (leaves r (n .word)))
       ≡ fromMultiplicity lo (onFrom v (leaves (r - 1) (childNode n d .word))) ++ fromMultiplicity lo later
   unfolding fromMultiplicity
-  parts = ap (fromMultiplicity lo) (b .parts) ∙ keep-append (λ v. leb lo (multiplicity v)) _ later
+  later-parts = ap (fromMultiplicity lo) (b .parts) ∙ keep-append (λ v. leb lo (multiplicity v)) _ later
 
+  -- the second is cut where the node has less than lo
   pub later-cut : multiplicity (n .word) < lo
       → fromMultiplicity lo (onFrom v (leaves r (n .word))) ≡ fromMultiplicity lo (onFrom v (leaves (r - 1) (childNode n d .word)))
   later-cut h =
-      parts ∙ ap (λ (l : List ℕ). fromMultiplicity lo (onFrom v (leaves (r - 1) (childNode n d .word))) ++ l) (cut (r - 1) (n .word) (firstRow n) d levels (b .offsets) lo h)
+      later-parts ∙ ap (λ (l : List ℕ). fromMultiplicity lo (onFrom v (leaves (r - 1) (childNode n d .word))) ++ l) (cut (r - 1) (n .word) (firstRow n) d levels (b .offsets) lo h)
       ∙ append-nil _
 
+  -- and whole where it has at least lo
   pub later-kept : lo ≤ multiplicity (n .word)
       → fromMultiplicity lo (onFrom v (leaves r (n .word))) ≡ fromMultiplicity lo (onFrom v (leaves (r - 1) (childNode n d .word))) ++ later
   later-kept h =
-      parts ∙ ap (λ (l : List ℕ). fromMultiplicity lo (onFrom v (leaves (r - 1) (childNode n d .word))) ++ l) (uncut (r - 1) (n .word) (firstRow n) d levels (b .offsets) lo h)
+      later-parts ∙ ap (λ (l : List ℕ). fromMultiplicity lo (onFrom v (leaves (r - 1) (childNode n d .word))) ++ l) (uncut (r - 1) (n .word) (firstRow n) d levels (b .offsets) lo h)
 
 -- a word with at least the lowest multiplicity is kept
 pub kept-own : (lo v : ℕ) → lo ≤ multiplicity v → fromMultiplicity lo (v ∷ []) ≡ v ∷ []

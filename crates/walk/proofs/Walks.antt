@@ -25,7 +25,7 @@ use Rattle.words.proofs.Answers.{asked}
 use Rattle.windows.specs.Windows.{within, windowList}
 use Rattle.windows.proofs.Windows.{within-iff, window-mem, mem-window, window-ordered, window-whole}
 use Rattle.walk.specs.declared.Walk.{Walk}
-use Rattle.walk.specs.Walks.{rest, standing, inOrder, freshOf, freshInOf, startOf, startInOf, unmoved, moved, batchOf, countOf}
+use Rattle.walk.specs.Walks.{rest, standing, inOrder, freshOf, freshInOf, startOf, startedAt, startInOf, unmoved, moved, batchOf, countOf}
 
 -- ---- where a walk stands
 
@@ -129,10 +129,12 @@ batch-empty w small fits h =
 
 -- ---- the fresh and the start calls
 
+-- the fresh walk has the window to give
 pub fresh-in-answers : (g lo hi : ℕ) → g ≤ 32 → freshInOf g lo hi ≡ given (standing g lo hi (windowList g lo hi))
 unfolding freshInOf
 fresh-in-answers g lo hi small = rw (le-leb g 32 small)
 
+-- above genus 32 it is refused
 pub fresh-in-refused : (g lo hi : ℕ) → 32 < g → freshInOf g lo hi ≡ refused 3
 unfolding freshInOf
 fresh-in-refused g lo hi large = rw (lt-leb g 32 large)
@@ -151,20 +153,18 @@ fresh-in-finished g lo hi small w e =
     subst (λ (v : Walk). (v .finished ≡ true) ↔ (windowList g lo hi ≡ [])) (sym same)
     (λ f. no-length (windowList g lo hi) (empty .0 f), λ f. empty .1 (ap length f))
 
--- the walk on the accepted word w in a window
-abbrev pub startedAt : ℕ → ℕ → ℕ → Walk
-startedAt w lo hi = record { genus = genus w; word = w; lowest = lo; highest = hi; finished = false }
-
 module _ (w : ℕ) (h : Accepted w) (lo hi : ℕ) where
-  -- an accepted word in a window starts a walk, which is in order; outside it is refused
+  -- an accepted word in a window starts a walk
   pub start-in-answers : within lo hi (multiplicity w) ≡ true → startInOf w lo hi ≡ given (startedAt w lo hi)
   unfolding startInOf
   start-in-answers e = asked refused w _ h ∙ rw e
 
+  -- outside it is refused
   pub start-in-refused : within lo hi (multiplicity w) ≡ false → startInOf w lo hi ≡ refused 4
   unfolding startInOf
   start-in-refused e = asked refused w _ h ∙ rw e
 
+  -- the walk is in order
   pub start-in-order : within lo hi (multiplicity w) ≡ true → inOrder (startedAt w lo hi) ≡ true
   unfolding inOrder
   start-in-order e = rw (le-leb (genus w) 32 (h .few), h .closed, eq-eqb (genus w) (genus w) refl, e)

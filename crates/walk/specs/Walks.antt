@@ -43,11 +43,13 @@ freshInOf g lo hi = ask (leb g 32) (refused 3) (given (standing g lo hi (windowL
 unfoldable pub freshOf : ℕ → Answer Walk
 freshOf g = freshInOf g 1 33
 
--- a walk of the word's genus in a window that stands on the word, which has to lie in the window
+-- the walk of the genus of w in the window from lo to hi that stands on w
+abbrev pub startedAt : ℕ → ℕ → ℕ → Walk
+startedAt w lo hi = record { genus = genus w; word = w; lowest = lo; highest = hi; finished = false }
+
+-- a walk that starts at the word w, which has to lie in the window
 unfoldable pub startInOf : ℕ → ℕ → ℕ → Answer Walk
-startInOf w lo hi =
-    askWord refused w
-    (ask (within lo hi (multiplicity w)) (refused 4) (given record { genus = genus w; word = w; lowest = lo; highest = hi; finished = false }))
+startInOf w lo hi = askWord refused w (ask (within lo hi (multiplicity w)) (refused 4) (given (startedAt w lo hi)))
 
 -- the start call without a window sets 1 and 33
 unfoldable pub startOf : ℕ → Answer Walk

@@ -206,6 +206,9 @@ fn resume(n: Node, word: u64, left: u64, lowest: u8, s: Emitted, out: &mut [u64]
     } else {
         let d = n.next_offset(word);
         let t = resume(n.child(d), word, left - 1, lowest, s, out);
+        if t.more {
+            return t;
+        }
         if words::multiplicity_of(n.word) < lowest as u64 {
             return t;
         }
