@@ -15,26 +15,30 @@ use Rattle.atlas.specs.declared.AtlasWalk.{AtlasWalk}
 use Rattle.atlas.specs.declared.AtlasBegun.{AtlasBegun}
 use Rattle.atlas.specs.declared.AtlasMoved.{AtlasMoved}
 
+-- a number
 abbrev pub numberIn : Answer ℕ → AtlasNumber
 numberIn (refused n) = record { refused = n; value = 0 }
 numberIn (given v) = record { refused = 0; value = v }
 
+-- what is told of a word
 abbrev pub reportIn : Answer Report → AtlasReport
 reportIn (refused n) = record { refused = n; genus = 0; multiplicity = 0; conductor = 0 }
 reportIn (given r) = record { refused = 0; genus = r .genus; multiplicity = r .multiplicity; conductor = r .conductor }
 
--- a finished mark as a byte, both ways
+-- a finished mark as a byte
 abbrev pub markIn : Bool → ℕ
 markIn true = 1
 markIn false = 0
 
+-- a walk as C callers get it
 abbrev pub walkIn : Walk → AtlasWalk
 walkIn w = record { genus = w .genus; word = w .word; lowest = w .lowest; highest = w .highest; finished = markIn (w .finished) }
 
--- the walk that a C caller means by a finished mark of 0 or 1
+-- and as they hand it over, with a finished mark of 0 or 1
 abbrev pub walkFrom : AtlasWalk → Walk
 walkFrom w = record { genus = w .genus; word = w .word; lowest = w .lowest; highest = w .highest; finished = eqb (w .finished) 1 }
 
+-- a walk that a call began
 abbrev pub begunIn : Answer Walk → AtlasBegun
 begunIn (refused n) = record { refused = n; walk = record { genus = 0; word = 0; lowest = 0; highest = 0; finished = 0 } }
 begunIn (given w) = record { refused = 0; walk = walkIn w }

@@ -59,6 +59,7 @@ pub struct AtlasMoved {
     pub finished: bool,
 }
 
+// A number as C callers get it.
 fn number_of(answer: NumberAnswer) -> AtlasNumber
     ensures { λ r. ⌜ r ≡ numberIn (answered answer) ⌝ }
 {
@@ -71,6 +72,7 @@ fn number_of(answer: NumberAnswer) -> AtlasNumber
     }
 }
 
+// What is told of a word, as they get it.
 fn report_of(answer: LookAnswer) -> AtlasReport
     ensures { λ r. ⌜ r ≡ reportIn (looked answer) ⌝ }
 {
@@ -90,6 +92,7 @@ fn report_of(answer: LookAnswer) -> AtlasReport
     }
 }
 
+// A walk, as they get it.
 fn walk_of(walk: Walk) -> AtlasWalk
     ensures { λ r. ⌜ r ≡ walkIn walk ⌝ }
 {
@@ -102,6 +105,7 @@ fn walk_of(walk: Walk) -> AtlasWalk
     }
 }
 
+// A walk that a call began, as they get it.
 fn begun_of(answer: WalkAnswer) -> AtlasBegun
     ensures { λ r. ⌜ r ≡ begunIn (begun answer) ⌝ }
 {
@@ -123,6 +127,7 @@ fn begun_of(answer: WalkAnswer) -> AtlasBegun
     }
 }
 
+// A batch that was refused, with the walk as it was handed over.
 fn unmoved_of(walk: AtlasWalk, refusal: Refusal) -> AtlasMoved
     ensures { λ r. ⌜ r ≡ unmovedIn (numberOf refusal) walk ⌝ }
 {
@@ -134,6 +139,7 @@ fn unmoved_of(walk: AtlasWalk, refusal: Refusal) -> AtlasMoved
     }
 }
 
+// How a batch ended, as they get it.
 fn moved_of(walk: Walk, answer: BatchAnswer) -> AtlasMoved
     ensures { λ r. ⌜ r ≡ movedIn walk (reported answer) ⌝ }
 {

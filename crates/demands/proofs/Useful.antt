@@ -124,6 +124,7 @@ module _ {Q : Type 0} (A : Atlas) (fresh : Q → Answer Walk) (list : Q → List
 
 -- ---- an atlas that meets demand 3
 
+-- the genus g
 abbrev genusOf : (g : ℕ) → g ≤ 32 → GenusAsked
 genusOf g h = record { genus = g; small = h }
 
