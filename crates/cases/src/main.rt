@@ -151,6 +151,7 @@ fn show_begun(begun: WalkAnswer) {
     end();
 }
 
+// A fresh walk in a window.
 fn show_window(genus: u64, lowest: u8, highest: u8) {
     text(b"window of genus");
     field(genus);
@@ -159,6 +160,7 @@ fn show_window(genus: u64, lowest: u8, highest: u8) {
     show_begun(walk::fresh_in(genus, lowest, highest));
 }
 
+// A walk that starts at a word.
 fn show_start(word: u64, lowest: u8, highest: u8) {
     text(b"start at");
     field(word);

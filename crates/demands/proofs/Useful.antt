@@ -78,9 +78,9 @@ module _ {Q : Type 0} (A : Atlas) (fresh : Q → Answer Walk) (list : Q → List
     after-second = after-call q begun answers (place ∷ place ∷ []) (first ∷ []) [] second refl
 
   -- the first batch writes the first word of the list
-  first-word : (q : Q) {x : ℕ} {k : List ℕ} → list q ≡ x ∷ k → joined wrote (first q ∷ []) ≡ x ∷ []
+  writes-first : (q : Q) {x : ℕ} {k : List ℕ} → list q ≡ x ∷ k → joined wrote (first q ∷ []) ≡ x ∷ []
   unfolding N lengths
-  first-word q e =
+  writes-first q e =
       let one : N (list q) (first q ∷ []) ≡ 1 = omega (arith, ap length e) in
       after-first q .words ∙ ap₂ take one e
 
@@ -89,7 +89,7 @@ module _ {Q : Type 0} (A : Atlas) (fresh : Q → Answer Walk) (list : Q → List
   unfolding batches
   not-same R p q {x} {y} joins e f differ s =
       let words : x ∷ [] ≡ y ∷ [] =
-      sym (first-word p e) ∙ s p q joins (begun p) (begun q) (answers p) (answers q) (place ∷ []) ∙ first-word q f in
+      sym (writes-first p e) ∙ s p q joins (begun p) (begun q) (answers p) (answers q) (place ∷ []) ∙ writes-first q f in
       differ cc
 
   not-finishing-early : FinishesEarly A fresh list → ⊥
@@ -125,28 +125,28 @@ module _ {Q : Type 0} (A : Atlas) (fresh : Q → Answer Walk) (list : Q → List
 -- ---- an atlas that meets demand 3
 
 -- the genus g
-abbrev genusOf : (g : ℕ) → g ≤ 32 → GenusAsked
-genusOf g h = record { genus = g; small = h }
+abbrev asksGenus : (g : ℕ) → g ≤ 32 → GenusAsked
+asksGenus g h = record { genus = g; small = h }
 
 -- the window from lo to hi of the genus g
-abbrev windowIn : (g lo hi : ℕ) → g ≤ 32 → lo ≤ 255 → hi ≤ 255 → WindowAsked
-windowIn g lo hi h a b = record { of = genusOf g h; lowest = lo; highest = hi; low-byte = a; high-byte = b }
+abbrev asksWindow : (g lo hi : ℕ) → g ≤ 32 → lo ≤ 255 → hi ≤ 255 → WindowAsked
+asksWindow g lo hi h a b = record { of = asksGenus g h; lowest = lo; highest = hi; low-byte = a; high-byte = b }
 
 module _ (A : Atlas) (demand : Demand3 A) where
-  demanded-of-genus : (q : GenusAsked) (lents : List (List ℕ)) → Demanded A (freshOfGenus A q) (genusList (q .genus)) (length (genusList (q .genus))) lents
-  demanded-of-genus q lents =
+  genus-demand : (q : GenusAsked) (lents : List (List ℕ)) → Demanded A (freshOfGenus A q) (genusList (q .genus)) (length (genusList (q .genus))) lents
+  genus-demand q lents =
       let d = demand .of-genus (q .genus) (q .small) lents in
       subst (λ (n : ℕ). Demanded A (freshOfGenus A q) (genusList (q .genus)) n lents) (d .demanded .how-many) (d .demanded)
 
   abbrev listIn : WindowAsked → List ℕ
   listIn q = windowList (q .of .genus) (q .lowest) (q .highest)
 
-  demanded-in-window : (q : WindowAsked) (lents : List (List ℕ)) → Demanded A (freshInWindow A q) (listIn q) (length (listIn q)) lents
-  demanded-in-window q lents = demand .in-window (q .of .genus) (q .lowest) (q .highest) (q .of .small) (q .low-byte) (q .high-byte) lents .demanded
+  window-demand : (q : WindowAsked) (lents : List (List ℕ)) → Demanded A (freshInWindow A q) (listIn q) (length (listIn q)) lents
+  window-demand q lents = demand .in-window (q .of .genus) (q .lowest) (q .highest) (q .of .small) (q .low-byte) (q .high-byte) lents .demanded
 
   -- the whole genus by its window from 1 to 33
   abbrev whole : (g : ℕ) → g ≤ 32 → WindowAsked
-  whole g h = windowIn g 1 33 h (omega arith) (omega arith)
+  whole g h = asksWindow g 1 33 h (omega arith) (omega arith)
 
   pub useful : Useful A
   useful =
@@ -157,15 +157,15 @@ module _ (A : Atlas) (demand : Demand3 A) where
       let genus-2 = known-list 2 (omega arith) in
       let whole-2 = window-whole 2 two ∙ genus-2 in
       record {
-        of-genus = useful-call A (freshOfGenus A) (λ q. genusList (q .genus)) demanded-of-genus (genusOf 2 two) (omega (arith, ap length genus-2));
-        in-window = useful-call A (freshInWindow A) listIn demanded-in-window (whole 2 two) (omega (arith, ap length whole-2));
+        of-genus = useful-call A (freshOfGenus A) (λ q. genusList (q .genus)) genus-demand (asksGenus 2 two) (omega (arith, ap length genus-2));
+        in-window = useful-call A (freshInWindow A) listIn window-demand (whole 2 two) (omega (arith, ap length whole-2));
         not-same-for-all =
-            not-same A (freshOfGenus A) (λ q. genusList (q .genus)) demanded-of-genus _ (genusOf 0 zero) (genusOf 2 two) tt genus-0 genus-2 (λ e. omega arith);
+            not-same A (freshOfGenus A) (λ q. genusList (q .genus)) genus-demand _ (asksGenus 0 zero) (asksGenus 2 two) tt genus-0 genus-2 (λ e. omega arith);
         not-ignoring-genus =
-            not-same A (freshInWindow A) listIn demanded-in-window _ (whole 0 zero) (whole 2 two) (refl, refl) (window-whole 0 zero ∙ genus-0) whole-2 (λ e. omega arith);
+            not-same A (freshInWindow A) listIn window-demand _ (whole 0 zero) (whole 2 two) (refl, refl) (window-whole 0 zero ∙ genus-0) whole-2 (λ e. omega arith);
         -- the windows from 1 to 33 and from 3 to 4 of genus 4 begin with 15 and 23
         not-ignoring-window =
-            not-same A (freshInWindow A) listIn demanded-in-window _ (whole 4 four) (windowIn 4 3 4 four (omega arith) (omega arith)) refl (known-windows .2) (known-windows .1) (λ e. omega arith);
+            not-same A (freshInWindow A) listIn window-demand _ (whole 4 four) (asksWindow 4 3 4 four (omega arith) (omega arith)) refl (known-windows .2) (known-windows .1) (λ e. omega arith);
         not-inventing = λ (g, small, other).
             let d = demand .of-genus g small [] in
             other (d .count-answers ∙ ap given (d .demanded .how-many));

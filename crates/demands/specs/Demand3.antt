@@ -60,7 +60,7 @@ N l calls = min (lengths calls) (length l)
 
 -- ---- the claim
 
--- what holds after the call c, which came after the calls `before`, of a walk that is to list l
+-- what holds after the call c, which came after the calls `before`, of a walk that is to list l, where finished compares with `number`
 pub record AfterCall (l : List ℕ) (number : ℕ) (before : List Call) (c : Call) : Type 0 where
   -- none of these batches is refused
   pub report : Written

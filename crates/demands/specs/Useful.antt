@@ -80,10 +80,11 @@ freshOfGenus A q = A .fresh (q .genus)
 abbrev pub freshInWindow : Atlas → WindowAsked → Answer Walk
 freshInWindow A q = A .freshIn (q .of .genus) (q .lowest) (q .highest)
 
--- one that prints the same list for all genera, by either call
+-- one that prints the same list for all genera
 abbrev pub SameForAll : Atlas → Type 0
 SameForAll A = SameWhere A (freshOfGenus A) (λ p q. Unit {0})
 
+-- one that does so in each window
 abbrev pub IgnoresGenus : Atlas → Type 0
 IgnoresGenus A = SameWhere A (freshInWindow A) (λ p q. (p .lowest ≡ q .lowest) × (p .highest ≡ q .highest))
 

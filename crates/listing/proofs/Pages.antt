@@ -29,27 +29,17 @@ use Rattle.listing.proofs.Lines.{header-of-le}
 
 -- ---- by what the fresh walk answers
 
--- a genus above 32 is refused by both
-pub fresh-listing-refused : (g n : ℕ) → freshOf g ≡ refused n → freshListingOf g ≡ refused n
-unfolding freshOf freshListingOf
-fresh-listing-refused g n e = elim (decLe g 32) [
-  | yes h ↦ absurd (let answers = fresh-answers g h in let z : _≡_ {A = ℕ} 0 1 = cc in omega arith)
-  | no h ↦
-      let large : 32 < g = omega arith in
-      let same : 3 ≡ n = let answers = fresh-in-refused g 1 33 large in cc in
-      rw (lt-leb g 32 large) (ap refused same)
-]
+-- the listing of a fresh walk, of which nothing was written
+abbrev pub unheaded : Answer Walk → Answer Listing
+unheaded (refused n) = refused n
+unheaded (given w) = given record { headed = false; walk = w }
 
--- any other is given, with the walk
-pub fresh-listing-given : (g : ℕ) (w : Walk) → freshOf g ≡ given w → freshListingOf g ≡ given record { headed = false; walk = w }
+-- is the fresh listing
+pub fresh-listing : (g : ℕ) → freshListingOf g ≡ unheaded (freshOf g)
 unfolding freshOf freshListingOf
-fresh-listing-given g w e = elim (decLe g 32) [
-  | yes h ↦
-      let same : standing g 1 33 (genusList g) ≡ w = let answers = fresh-answers g h in cc in
-      rw (le-leb g 32 h) (ap (λ (v : Walk). given record { headed = false; walk = v }) same)
-  | no h ↦
-      let large : 32 < g = omega arith in
-      absurd (let answers = fresh-in-refused g 1 33 large in let z : _≡_ {A = ℕ} 0 1 = cc in omega arith)
+fresh-listing g = elim (decLe g 32) [
+  | yes h ↦ rw (le-leb g 32 h) (ap unheaded (sym (fresh-answers g h)))
+  | no h ↦ let large : 32 < g = omega arith in rw (lt-leb g 32 large) (ap unheaded (sym (fresh-in-refused g 1 33 large)))
 ]
 
 -- ---- by what the batch answers

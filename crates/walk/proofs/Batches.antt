@@ -16,7 +16,7 @@ use Rattle.words.proofs.Answers.{asked, asked-refused, look-given}
 use Rattle.words.proofs.GenusList.{mem-genus-list}
 use Rattle.words.specs.Tree.{leaves}
 use Rattle.words.proofs.Leaves.{genus-list-leaves}
-use Rattle.windows.specs.Windows.{within, windowList}
+use Rattle.windows.specs.Windows.{within}
 use Rattle.windows.proofs.Windows.{window-mem, window-on-from}
 use Rattle.walk.specs.declared.Walk.{Walk}
 use Rattle.walk.specs.Walks.{rest, standing, inOrder, Ending, unmoved, batchOf}
@@ -55,17 +55,11 @@ pub in-order-finished : (w : Walk) → w .finished ≡ true → inOrder w ≡ eq
 unfolding inOrder
 in-order-finished w e = rw e
 
--- an unfinished walk in order stands on a word of its window
-pub walk-mem : (w : Walk) → w .word < 2 ^ 64 → inOrder w ≡ true → w .finished ≡ false → List·Memᴰ (w .word) (windowList (w .genus) (w .lowest) (w .highest))
-walk-mem w fits ordered going =
-    in-order-mem (w .genus) (w .lowest) (w .highest) (w .word) fits
-    (ap (λ (f : Bool). inOrder record { genus = w .genus; word = w .word; lowest = w .lowest; highest = w .highest; finished = f }) (sym going) ∙ ordered)
-
--- which is a word of its genus list, with at least its lowest multiplicity
+-- an unfinished walk in order stands on a word of its genus list, with at least its lowest multiplicity
 pub walk-leaf : (w : Walk) → w .word < 2 ^ 64 → w .genus ≤ 32 → inOrder w ≡ true → w .finished ≡ false
     → List·Memᴰ (w .word) (leaves (w .genus) 0) × (w .lowest ≤ multiplicity (w .word))
 walk-leaf w fits small ordered going =
-    let (h, low, high) = window-mem (w .genus) (w .lowest) (w .highest) (walk-mem w fits ordered going) in
+    let (h, low, high) = window-mem (w .genus) (w .lowest) (w .highest) (in-order-mem w fits ordered going) in
     (subst (List·Memᴰ (w .word)) (genus-list-leaves (w .genus) small) (mem-genus-list (w .genus) (w .word) h), low)
 
 -- ---- endings
@@ -103,5 +97,5 @@ module _ (w : Walk) (lent : List ℕ) where
       batch-put fits going e =
           let l : List ℕ = fromMultiplicity (w .lowest) (onFrom (w .word) (leaves (w .genus) 0)) in
           batch-moves w lent small ordered
-          ∙ rw (going, window-on-from (w .genus) (w .lowest) (w .highest) (w .word) (walk-mem w fits ordered going), genus-list-leaves (w .genus) small)
+          ∙ rw (going, window-on-from (w .genus) (w .lowest) (w .highest) (w .word) (in-order-mem w fits ordered going), genus-list-leaves (w .genus) small)
           (simp Bool·not-not at (ap (put-ending w) (sym (e ∙ put-all l lent (min (length lent) (length l)) refl))))

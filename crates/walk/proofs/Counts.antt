@@ -1,6 +1,6 @@
 -- What the fresh and the count call answer, by the questions. Assumes nothing.
 use Prim.Native.Nat.{ℕ, _+_, _-_, _^_, _≤_, _<_}
-use mathlib.Core.Path.{_≡_, _∙_, ap}
+use mathlib.Core.Path.{_≡_, refl, _∙_, ap}
 use mathlib.Core.Bool.{Bool, true, false}
 use mathlib.Core.List.{List}
 use native.Mathlib.Omega.{arith}
@@ -10,7 +10,7 @@ use borrow.Author.Tests.{lt-leb}
 use Rattle.words.specs.Words.{genus}
 use Rattle.words.specs.Lists.{none}
 use Rattle.words.specs.GenusList.{descendants, descendantCount}
-use Rattle.words.specs.Answers.{refused, given, ask, Accepted}
+use Rattle.words.specs.Answers.{Answer, refused, given, ask, Accepted}
 use Rattle.words.proofs.Answers.{asked}
 use Rattle.words.proofs.First.{genus-list-first}
 use Rattle.words.specs.Tree.{leaves}
@@ -18,34 +18,23 @@ use Rattle.words.proofs.Leaves.{descendants-leaves}
 use Rattle.windows.specs.Windows.{windowList}
 use Rattle.windows.specs.declared.First.{First}
 use Rattle.windows.specs.Answers.{firstIn, firstOf}
+use Rattle.walk.specs.declared.Walk.{Walk}
 use Rattle.walk.specs.Walks.{standing, freshOf, freshInOf, countOf}
 use Rattle.walk.proofs.Walks.{fresh-answers, count-answers}
 
 -- ---- the fresh walk
 
--- it stands on the first word of the window, and where there is none it is finished
-module _ (g lo hi : ℕ) where
-  pub fresh-in-not-given : (n : ℕ) → firstOf g lo hi ≡ refused n → freshInOf g lo hi ≡ refused n
-  unfolding firstOf freshInOf
-  fresh-in-not-given n e = by-question (leb g 32) e
-    where
-      by-question : (p : Bool) → ask p (refused 3) (given (firstIn (windowList g lo hi))) ≡ refused n
-          → ask p (refused 3) (given (standing g lo hi (windowList g lo hi))) ≡ refused n
-      by-question true e = absurd (let z : _≡_ {A = ℕ} 0 1 = cc in omega arith)
-      by-question false e = let same : 3 ≡ n = cc in ap refused same
+-- the fresh walk on the first word of a window, finished where there is none
+abbrev pub stoodOn : ℕ → ℕ → ℕ → Answer First → Answer Walk
+stoodOn g lo hi (refused n) = refused n
+stoodOn g lo hi (given f) = given record { genus = g; word = f .word; lowest = lo; highest = hi; finished = f .empty }
 
-  pub fresh-in-given : (f : First) → firstOf g lo hi ≡ given f
-      → freshInOf g lo hi ≡ given record { genus = g; word = f .word; lowest = lo; highest = hi; finished = f .empty }
-  unfolding firstOf firstIn freshInOf standing
-  fresh-in-given f e = by-question (leb g 32) e
-    where
-      by-question : (p : Bool) → ask p (refused 3) (given (firstIn (windowList g lo hi))) ≡ given f
-          → ask p (refused 3) (given (standing g lo hi (windowList g lo hi)))
-          ≡ given record { genus = g; word = f .word; lowest = lo; highest = hi; finished = f .empty }
-      by-question true e =
-          let same : firstIn (windowList g lo hi) ≡ f = cc in
-          ap (λ (f : First). given record { genus = g; word = f .word; lowest = lo; highest = hi; finished = f .empty }) same
-      by-question false e = absurd (let z : _≡_ {A = ℕ} 0 1 = cc in omega arith)
+-- is what the fresh call gives
+pub fresh-by-first : (g lo hi : ℕ) → freshInOf g lo hi ≡ stoodOn g lo hi (firstOf g lo hi)
+unfolding firstOf firstIn freshInOf standing
+fresh-by-first g lo hi =
+    elim (leb g 32) as (λ (b : Bool). ask b (refused 3) (given (standing g lo hi (windowList g lo hi))) ≡ stoodOn g lo hi (ask b (refused 3) (given (firstIn (windowList g lo hi)))))
+    [ true ↦ refl | false ↦ refl ]
 
 -- without a window it stands on the word whose gaps are the numbers from 1 to the genus
 pub fresh-given : (g : ℕ) → g ≤ 32 → freshOf g ≡ given record { genus = g; word = 2 ^ g - 1; lowest = 1; highest = 33; finished = false }

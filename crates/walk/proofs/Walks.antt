@@ -29,6 +29,17 @@ use Rattle.walk.specs.Walks.{rest, standing, inOrder, freshOf, freshInOf
 
 -- ---- where a walk stands
 
+-- an unfinished walk in order, with a word of 64 bits, stands on a word of its window
+pub in-order-mem : (w : Walk) → w .word < 2 ^ 64 → inOrder w ≡ true → w .finished ≡ false → List·Memᴰ (w .word) (windowList (w .genus) (w .lowest) (w .highest))
+unfolding inOrder
+in-order-mem w fits ordered going =
+    let x : ℕ = w .word in
+    let (own, inside) = and-eq-true-iff (leb (genus x) 32 && closed x && eqb (genus x) (w .genus)) (within (w .lowest) (w .highest) (multiplicity x)) .0 (rw going at ordered) in
+    let (accepted, same) = and-eq-true-iff (leb (genus x) 32 && closed x) (eqb (genus x) (w .genus)) .0 own in
+    let sums = and-eq-true-iff (leb (genus x) 32) (closed x) .0 accepted .1 in
+    let (low, high) = within-iff (w .lowest) (w .highest) (multiplicity x) .0 inside in
+    mem-window (w .genus) (w .lowest) (w .highest) x record { fits = fits; closed = sums; gapped = eqb-true (genus x) (w .genus) same } low high
+
 module _ (g lo hi : ℕ) where
   abbrev L : List ℕ
   L = windowList g lo hi
@@ -48,16 +59,6 @@ module _ (g lo hi : ℕ) where
         let (h, low, high) = window-mem g lo hi (subst (List·Memᴰ x) e (mem-middle k l x)) in
         rw (le-leb (genus x) 32 (le-trans (le-of-eq (h .gapped)) small), h .closed, eq-eqb (genus x) g (h .gapped), within-iff lo hi (multiplicity x) .1 (low, high))
 
-  -- an unfinished walk in order, with a word of 64 bits, stands on a word of its window
-  pub in-order-mem : (x : ℕ) → x < 2 ^ 64 → inOrder record { genus = g; word = x; lowest = lo; highest = hi; finished = false } ≡ true → List·Memᴰ x L
-  unfolding inOrder
-  in-order-mem x fits h =
-      let (own, inside) = and-eq-true-iff (leb (genus x) 32 && closed x && eqb (genus x) g) (within lo hi (multiplicity x)) .0 h in
-      let (accepted, same) = and-eq-true-iff (leb (genus x) 32 && closed x) (eqb (genus x) g) .0 own in
-      let sums = and-eq-true-iff (leb (genus x) 32) (closed x) .0 accepted .1 in
-      let (low, high) = within-iff lo hi (multiplicity x) .0 inside in
-      mem-window g lo hi x record { fits = fits; closed = sums; gapped = eqb-true (genus x) g same } low high
-
   -- a walk in order has an end of its window still to give
   in-order-stands : (x : ℕ) (f : Bool) → x < 2 ^ 64 → inOrder record { genus = g; word = x; lowest = lo; highest = hi; finished = f } ≡ true
       → (k l : List ℕ) × (k ++ l ≡ L) × (standing g lo hi l ≡ record { genus = g; word = x; lowest = lo; highest = hi; finished = f })
@@ -68,7 +69,7 @@ module _ (g lo hi : ℕ) where
     append-nil L,
     ap (λ (y : ℕ). record { genus = g; word = y; lowest = lo; highest = hi; finished = true }) (sym (eqb-true x 0 h)),
   )
-  in-order-stands x false fits h = let (k, l, e) = mem-split L (in-order-mem x fits h) in (k, x ∷ l, e, refl)
+  in-order-stands x false fits h = let (k, l, e) = mem-split L (in-order-mem _ fits h refl) in (k, x ∷ l, e, refl)
 
 -- what a walk has still to give is an end of its window
 pub rest-end : (w : Walk) → (k : List ℕ) × (k ++ rest w ≡ windowList (w .genus) (w .lowest) (w .highest))

@@ -1,31 +1,28 @@
 -- The first word of a window: its gaps are the first numbers that the window's largest multiplicity does not divide. Assumes nothing.
-use Prim.Native.Nat.{ℕ, zero, suc, _+_, _*_, _/_, _%_, _≤_, _<_, min}
+use Prim.Native.Nat.{ℕ, zero, suc, _+_, _%_, _≤_, _<_, min}
 use mathlib.Core.Path.{_≡_, refl, sym, _∙_, ap, ap₂, subst}
 use mathlib.Core.Logic.{_⊎_, inr, ⊎-elim}
 use mathlib.Core.Bool.{Bool, true, false, not}
 use mathlib.Core.List.{List, [], _∷_, List·Memᴰ, List·Memᴰ·head, List·Memᴰ·tail}
 use native.Mathlib.Omega.{arith}
-use native.Mathlib.Nat.{mod-one, div-add-mod, le-antisymm, lt-of-not-le}
+use native.Mathlib.Nat.{le-antisymm, lt-of-not-le}
 use lib.Dec.{eqb}
 use lib.ListN.{length, take}
 use borrow.Author.Tests.{ne-eqb, eqb-true, eqb-false, le-leb, lt-leb}
 use Rattle.words.specs.Lists.{none, run, keep}
-use Rattle.words.specs.Words.{setOf, gaps, genus, wordOf}
+use Rattle.words.specs.Words.{gaps, genus, wordOf}
 use Rattle.words.specs.Elements.{multiplicity}
 use Rattle.words.specs.GenusList.{Before, Earlier}
 use Rattle.words.specs.Answers.{refused, given}
 use Rattle.words.proofs.Booleans.{not-both, by-value}
-use Rattle.words.proofs.Lists.{nothing, keep-in, keep-out, Rising, rising-cons, rising-tail, rising-from}
+use Rattle.words.proofs.Lists.{keep-in, keep-out, Rising, rising-cons, rising-tail, rising-from}
 use Rattle.words.proofs.Kept.{ordered-first}
-use Rattle.words.proofs.Sets.{multiples-in}
-use Rattle.words.proofs.Words.{gaps-list, gaps-mem, gaps-of-word}
-use Rattle.words.proofs.Closure.{closed-iff}
-use Rattle.words.proofs.Elements.{multiplicity-in, multiplicity-pos, multiplicity-le-genus}
-use Rattle.words.proofs.GenusList.{WordOfGenus}
+use Rattle.words.proofs.Words.{gaps-list, gaps-of-word}
+use Rattle.words.proofs.Elements.{multiplicity-le-genus}
 use Rattle.windows.specs.Windows.{windowList, leastMultiplicity, notDivided}
 use Rattle.windows.specs.Answers.{firstIn, firstOf}
-use Rattle.windows.proofs.Falling.{earlier-multiplicity}
-use Rattle.windows.proofs.Windows.{window-mem, mem-window, window-ordered}
+use Rattle.windows.proofs.Multiplicities.{earlier-multiplicity, gap-no-multiple}
+use Rattle.windows.proofs.Windows.{window-mem, mem-window, window-ordered, window-none}
 use Rattle.windows.proofs.NotDivided.{undivided, undividedTo, divided-list, divided-fits, divided-genus, divided-multiplicity, enough-for}
 
 -- no rising list of numbers that pass a test comes before as many of the first that pass
@@ -48,27 +45,6 @@ first-kept p a (suc n) (x ∷ l) r h b =
     above : {y z : ℕ} → y ≤ z → (y ≡ z → ⊥) → y < z
     above h k = lt-of-not-le (λ l. k (le-antisymm h l))
 
--- ---- windows
-
--- no gap is a multiple of the multiplicity
-gap-no-multiple : (g w : ℕ) → WordOfGenus g w → (x : ℕ) → List·Memᴰ x (gaps w) → x % multiplicity w ≡ 0 → ⊥
-unfolding setOf
-gap-no-multiple g w o x i e =
-    let m : ℕ = multiplicity w in
-    let multiple : m * (x / m) ≡ x = omega (arith, div-add-mod x m) in
-    not-both (multiples-in (setOf w) refl (closed-iff w (o .fits) .0 (o .closed)) m (multiplicity-in w (o .fits)) (x / m))
-    (ap (setOf w) multiple ∙ gaps-mem w i)
-
--- so that only genus 0 has multiplicity 1
-pub multiplicity-low : (g w : ℕ) → WordOfGenus g w → leastMultiplicity g ≤ multiplicity w
-unfolding genus
-multiplicity-low zero w o = omega (arith, multiplicity-pos w (o .fits))
-multiplicity-low (suc g) w o =
-    lt-of-not-le (λ l.
-    let one : multiplicity w ≡ 1 = omega (arith, multiplicity-pos w (o .fits)) in
-    let none : gaps w ≡ [] = nothing (gaps w) (λ x i. gap-no-multiple (suc g) w o x i (ap (λ (k : ℕ). x % k) one ∙ mod-one x)) in
-    omega (arith, o .gapped, ap length none))
-
 -- the first word of a window: of the words with its largest multiplicity m, none has gaps before the first numbers that m does not divide
 pub window-first : (g lo hi m : ℕ) → g ≤ 32 → m ≡ min hi (g + 1) → lo ≤ m → leastMultiplicity g ≤ m → (l : List ℕ) × (windowList g lo hi ≡ wordOf (notDivided g m) ∷ l)
 unfolding notDivided genus
@@ -83,14 +59,6 @@ window-first g lo hi m h e low two =
     let most : multiplicity v ≡ m = omega (arith, multiplicity-le-genus v (o .fits), o .gapped, earlier-multiplicity v w (o .fits) (divided-fits g m k enough) b) in
     first-kept (undivided m) 1 64 (gaps v) (gaps-list v) (λ x j. ap not (ne-eqb (x % m) 0 (λ z. gap-no-multiple g v o x j (ap (λ (n : ℕ). x % n) most ∙ z))))
     (subst (Before (gaps v)) (gaps-of-word (notDivided g m) (divided-list g m k enough) ∙ ap (λ (n : ℕ). take n (undividedTo m 64)) (sym (o .gapped))) b))
-
--- a window with no multiplicity that a semigroup of genus g can have holds none
-pub window-none : (g lo hi : ℕ) → (min hi (g + 1) < lo) ⊎ (min hi (g + 1) < leastMultiplicity g) → windowList g lo hi ≡ []
-window-none g lo hi h =
-    nothing (windowList g lo hi) (λ v i.
-    let (o, from, to) = window-mem g lo hi i in
-    let most = multiplicity-le-genus v (o .fits) in
-    ⊎-elim (λ k. omega (arith, o .gapped)) (λ k. omega (arith, o .gapped, multiplicity-low g v o)) h)
 
 -- ---- what the call answers
 

@@ -1,4 +1,4 @@
-pub mod Falling
+pub mod Multiplicities
 pub mod Windows
 pub mod NotDivided
 pub mod FirstWord

@@ -1,8 +1,8 @@
 -- What a window holds, that it is one stretch of the genus list, and that the genus list is the windows of its multiplicities, the largest
 -- first. Assumes nothing.
-use Prim.Native.Nat.{ℕ, zero, suc, _+_, _-_, _^_, _≤_, _<_}
+use Prim.Native.Nat.{ℕ, zero, suc, _+_, _-_, _^_, _≤_, _<_, min}
 use mathlib.Core.Path.{_≡_, sym, _∙_, ap, ap₂, subst}
-use mathlib.Core.Logic.{_↔_, ⊎-elim}
+use mathlib.Core.Logic.{_⊎_, inl, _↔_, ⊎-elim}
 use mathlib.Core.Bool.{Bool, true, false, _||_, and-eq-true-iff, and-true, or-false}
 use mathlib.Core.List.{List, [], _∷_, _++_, append-assoc, append-nil, map-id, List·Memᴰ, List·Memᴰ·not-nil, List·Memᴰ·cases-cons}
 use native.Mathlib.Omega.{arith}
@@ -21,8 +21,8 @@ use Rattle.words.proofs.Kept.{keep-same, keep-all, keep-apart, on-from-keep}
 use Rattle.words.proofs.Sets.{multiplicity-unique}
 use Rattle.words.proofs.Elements.{multiplicity-pos, multiplicity-le-genus, set-multiplicity}
 use Rattle.words.proofs.GenusList.{WordOfGenus, genus-list-mem, mem-genus-list, genus-list-ordered, earlier-asym, kept-all}
-use Rattle.windows.specs.Windows.{within, windowList, MultiplicityWithin, InWindow, AllInWindow}
-use Rattle.windows.proofs.Falling.{earlier-multiplicity}
+use Rattle.windows.specs.Windows.{within, windowList, leastMultiplicity, MultiplicityWithin, InWindow, AllInWindow}
+use Rattle.windows.proofs.Multiplicities.{earlier-multiplicity, multiplicity-low}
 
 -- the test of a window
 abbrev inside : ℕ → ℕ → ℕ → Bool
@@ -81,9 +81,13 @@ module _ (g lo hi : ℕ) where
     λ none. nothing (windowList g lo hi) (λ w m. none (setOf w) (window-all h .only w m)),
   )
 
-  -- a window from above to below is empty
-  pub window-reversed : hi < lo → windowList g lo hi ≡ []
-  window-reversed h = nothing (windowList g lo hi) (λ w m. let (c, p, q) = window-mem m in omega arith)
+  -- a window whose lowest is above its highest, or above what a semigroup of genus g can have, or whose highest is below it, holds none
+  pub window-none : (min hi (g + 1) < lo) ⊎ (min hi (g + 1) < leastMultiplicity g) → windowList g lo hi ≡ []
+  window-none h =
+      nothing (windowList g lo hi) (λ v i.
+      let (o, low, high) = window-mem i in
+      let most = multiplicity-le-genus v (o .fits) in
+      ⊎-elim (λ k. omega (arith, o .gapped)) (λ k. omega (arith, o .gapped, multiplicity-low g v o)) h)
 
   -- a window from 1 or 0 to g + 1 or more is the genus list
   window-full : lo ≤ 1 → suc g ≤ hi → windowList g lo hi ≡ genusList g
@@ -134,7 +138,7 @@ unfolding joined run
 by-multiplicity g = sym (window-full g 1 (suc g) (omega arith) (omega arith)) ∙ from 0 (suc g) (omega arith)
   where
     from : (i n : ℕ) → i + n ≡ suc g → windowList g 1 n ≡ joined (λ i. windowList g (suc g - i) (suc g - i)) (run i n)
-    from i zero e = window-reversed g 1 0 (omega arith)
+    from i zero e = window-none g 1 0 (inl (omega arith))
     from i (suc n) e =
         let here : suc n ≡ suc g - i = omega arith in
         window-parts g 1 (suc n) n (omega arith) (omega arith)
@@ -155,7 +159,7 @@ one-stretch g lo hi = split lo
     split (suc m) =
         elim (decLe m hi) [
           | yes h ↦ (larger, windowList g 0 m, rw (append-assoc, ← window-parts g 0 hi m (omega arith) h) whole)
-          | no h ↦ ([], genusList g, ap (λ (t : List ℕ). t ++ genusList g) (window-reversed g (suc m) hi (omega arith)))
+          | no h ↦ ([], genusList g, ap (λ (t : List ℕ). t ++ genusList g) (window-none g (suc m) hi (inl (omega arith))))
         ]
 
 -- ---- a window from a word on

@@ -19,6 +19,6 @@ unfoldable pub firstOf : ℕ → ℕ → ℕ → Answer First
 firstOf g lo hi = ask (leb g 32) (refused 3) (given (firstIn (windowList g lo hi)))
 
 -- the answer of the call
-abbrev pub found : FirstAnswer → Answer First
-found (F.Refused r) = refused (numberOf r)
-found (F.Given f) = given f
+abbrev pub firstAnswered : FirstAnswer → Answer First
+firstAnswered (F.Refused r) = refused (numberOf r)
+firstAnswered (F.Given f) = given f

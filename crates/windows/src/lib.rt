@@ -3,7 +3,7 @@ ghost use Prim.Native.Nat.{_+_, _≤_, min};
 ghost use mathlib.Core.Path.{_≡_};
 ghost use Rattle.words.specs.Words.{wordOf};
 ghost use Rattle.windows.specs.Windows.{within, notDivided};
-ghost use Rattle.windows.specs.Answers.{found, firstOf};
+ghost use Rattle.windows.specs.Answers.{firstAnswered, firstOf};
 use words::Refusal;
 
 // The first word of a window, or 0 where the window holds none.
@@ -54,7 +54,7 @@ fn largest_within(genus: u64, highest: u8) -> u64
 // The first word of a window: of those with the largest multiplicity in it, the first. Only genus 0 has multiplicity 1. Refused above
 // genus 32.
 pub fn first_word(genus: u64, lowest: u8, highest: u8) -> FirstAnswer
-    ensures { λ r. ⌜ found r ≡ firstOf genus lowest highest ⌝ }
+    ensures { λ r. ⌜ firstAnswered r ≡ firstOf genus lowest highest ⌝ }
 {
     if 32 < genus {
         return FirstAnswer::Refused(Refusal::GenusTooLarge);

@@ -4,7 +4,7 @@ use mathlib.Core.Bool.{Bool, true, false, _||_}
 use mathlib.Core.List.{List, [], _∷_, _++_, List·Memᴰ, List·Memᴰ·head, List·Memᴰ·tail}
 use Prim.Native.Nat.{ℕ}
 use lib.Dec.{eqb}
-use borrow.Author.Tests.{eq-eqb, eqb-true, ne-eqb}
+use borrow.Author.Tests.{eqb-true}
 use Rattle.words.specs.Lists.{keep, keepIf, onFrom, Ordered}
 use Rattle.words.proofs.Booleans.{not-both, by-value}
 use Rattle.words.proofs.Lists.{nothing, keep-mem, keep-in, keep-out}
