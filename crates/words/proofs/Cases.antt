@@ -1,5 +1,5 @@
 -- Known semigroups: the genus lists of genus 0 to 4 and the numbers of semigroups of genus 0 to 8, computed by the tree, and looks at
--- words, computed from the definition. Assumes nothing.
+-- words and the conductors and multiplicities of any words, computed from the definition. Assumes nothing.
 use Prim.Native.Nat.{ℕ, _+_, _<_}
 use mathlib.Core.Path.{_≡_, refl, sym, _∙_, ap}
 use mathlib.Core.List.{List, [], _∷_, map}
@@ -47,3 +47,10 @@ pub known-looks : map lookOf (0 ∷ 1 ∷ 5 ∷ 111 ∷ 91 ∷ 13 ∷ 4294967295
     ∷ []
 unfolding run keep keepIf every lastOr sumOfTwo bit setOf gaps genus largestGap conductor closed multiplicity askWord reportOf lookOf
 known-looks = refl
+
+-- the conductors and the multiplicities of words of which only the first is accepted: 0, 2, 13, the largest without the gap 64, that of
+-- the gap 64 alone, and that of all gaps up to 64
+pub known-conductors-and-multiplicities : let words : List ℕ = 0 ∷ 2 ∷ 13 ∷ 9223372036854775807 ∷ 9223372036854775808 ∷ 18446744073709551615 ∷ [] in
+    (map conductor words ≡ 1 ∷ 3 ∷ 5 ∷ 64 ∷ 65 ∷ 65 ∷ []) × (map multiplicity words ≡ 1 ∷ 1 ∷ 2 ∷ 64 ∷ 1 ∷ 65 ∷ [])
+unfolding run keep lastOr bit setOf gaps largestGap conductor multiplicity
+known-conductors-and-multiplicities = (refl, refl)

@@ -105,6 +105,12 @@ pub struct Report {
     pub conductor: u64,
 }
 
+// The conductor and the multiplicity of a word, accepted or not.
+pub struct ConductorAndMultiplicity {
+    pub conductor: u64,
+    pub multiplicity: u64,
+}
+
 // The answer of a call that gives a number.
 pub enum NumberAnswer {
     Refused(Refusal),
@@ -124,18 +130,31 @@ pub fn genus_of(word: u64) -> u64
     u64::count_ones(word) as u64
 }
 
-// The least positive element of any word: one more than the place of the lowest clear bit.
+// The largest gap plus 1 of any word, 1 where there is none, and its least positive element, in one pass over the bits: the clear bits above
+// the highest standing one are counted from the top, the standing bits below the lowest clear one from the bottom, and no bit twice.
+pub fn conductor_and_multiplicity(word: u64) -> ConductorAndMultiplicity
+    ensures { λ r. ⌜ (r .conductor ≡ conductor word) × (r .multiplicity ≡ multiplicity word) ⌝ }
+{
+    let conductor = 65 - u64::leading_zeros(word) as u64;
+    let multiplicity = u64::trailing_zeros(!word) as u64 + 1;
+    ConductorAndMultiplicity {
+        conductor,
+        multiplicity,
+    }
+}
+
+// The least positive element of any word.
 pub fn multiplicity_of(word: u64) -> u64
     ensures { λ r. ⌜ r ≡ multiplicity word ⌝ }
 {
-    u64::trailing_zeros(!word) as u64 + 1
+    conductor_and_multiplicity(word).multiplicity
 }
 
-// The largest gap plus 1 of any word, 1 where there is none: two more than the place of the highest standing bit.
+// The largest gap plus 1 of any word, 1 where there is none.
 pub fn conductor_of(word: u64) -> u64
     ensures { λ r. ⌜ r ≡ conductor word ⌝ }
 {
-    65 - u64::leading_zeros(word) as u64
+    conductor_and_multiplicity(word).conductor
 }
 
 // Is the set closed under addition? The positive elements moved up by an element `a` are sums, none of which may be a gap.
@@ -162,10 +181,11 @@ pub fn look(word: u64) -> LookAnswer
     if !is_closed(word) {
         return LookAnswer::Refused(Refusal::NotClosed);
     }
+    let both = conductor_and_multiplicity(word);
     LookAnswer::Given(Report {
         genus,
-        multiplicity: multiplicity_of(word),
-        conductor: conductor_of(word),
+        multiplicity: both.multiplicity,
+        conductor: both.conductor,
     })
 }
 

@@ -11,21 +11,20 @@ use Rattle.listing.proofs.Writing.{puts-as, puts-on}
 use Rattle.listing.proofs.put_line.Statement.{statement}
 use Rattle.listing.proofs.put_line.Tie as tie
 
-conductor-of-requires : tie.Need-conductor-of-requires
-conductor-of-requires c κs = search needs
-
-multiplicity-of-requires : tie.Need-multiplicity-of-requires
-multiplicity-of-requires c κs = search needs
+conductor-and-multiplicity-requires : tie.Need-conductor-and-multiplicity-requires
+conductor-and-multiplicity-requires c κs = search needs
 
 -- the fields have their places: the word one of 20 digits, the conductor and the multiplicity one of two
-short : (c : tie.After-multiplicity-of) (end : ℕ)
-    → (length (field (c .before .before .before .args .word) end) ≤ 21) × (length (field (c .before .conductor-of .result) end) ≤ 3) × (length (field (c .multiplicity-of .result) end) ≤ 3)
+short : (c : tie.After-conductor-and-multiplicity) (end : ℕ) →
+    let both = c .conductor-and-multiplicity .result in
+    (length (field (c .before .before .args .word) end) ≤ 21) × (length (field (both .conductor) end) ≤ 3) × (length (field (both .multiplicity) end) ≤ 3)
 short c end =
-    let word = c .before .before .before .args .word in
-    let fits = c .before .before .before .fits .word .fits in (
+    let word = c .before .before .args .word in
+    let fits = c .before .before .fits .word .fits in
+    let known = c .conductor-and-multiplicity .ensures in (
       field-le word end 19 fits (omega arith),
-      field-le-3 (c .before .conductor-of .result) end (omega (arith, c .before .conductor-of .ensures, conductor-le word fits)),
-      field-le-3 (c .multiplicity-of .result) end (omega (arith, c .multiplicity-of .ensures, multiplicity-le word fits)),
+      field-le-3 _ end (omega (arith, known .0, conductor-le word fits)),
+      field-le-3 _ end (omega (arith, known .1, multiplicity-le word fits)),
     )
 
 put-field-requires : tie.Need-put-field-requires
@@ -53,15 +52,15 @@ same-length c = search needs
 
 returns : tie.Need-returns
 returns c =
-    puts-as (sym (line-from _ (c .before .before .before .before .before .before .before .before .before .before .before .before .before .conductor-of .ensures) (c .before .before .before .before .before .before .before .before .before .before .before .before .multiplicity-of .ensures)))
+    let known = c .before .before .before .before .before .before .before .before .before .before .before .before .conductor-and-multiplicity .ensures in
+    puts-as (sym (line-from _ (known .0) (known .1)))
     (puts-on (puts-on (c .before .before .before .before .before .before .before .before .before .before .put-field .ensures) (c .before .before .before .before .before .before .put-field2 .ensures)) (c .before .before .put-field3 .ensures))
 
 pub put-line-spec : {M : Type 1} → statement M
 put-line-spec =
     tie.close
     (tie.spec
-    conductor-of-requires
-    multiplicity-of-requires
+    conductor-and-multiplicity-requires
     put-field-requires
     put-field-requires-2
     put-field-requires-3

@@ -29,22 +29,19 @@ returns-2 c =
     let not-closed : closed w ≡ false = sym (c .before .is-closed .ensures) ∙ not-true _ (c .if2 .taken) in
     simp (le-leb (genus w) 32 few, not-closed)
 
-multiplicity-of-requires : tie.Need-multiplicity-of-requires
-multiplicity-of-requires c κs = search needs
-
-conductor-of-requires : tie.Need-conductor-of-requires
-conductor-of-requires c κs = search needs
+conductor-and-multiplicity-requires : tie.Need-conductor-and-multiplicity-requires
+conductor-and-multiplicity-requires c κs = search needs
 
 returns-3 : tie.Need-returns-3
 unfolding lookOf askWord reportOf
 returns-3 c =
-    let at-test = c .before .before in
+    let at-test = c .before in
     let at-genus = at-test .before .before .before in
     let w : ℕ = at-genus .before .args .word in
     let few : genus w ≤ 32 = omega (arith, at-genus .genus-of .ensures) in
     let is-closed : closed w ≡ true = sym (at-test .before .is-closed .ensures) ∙ not-false _ (at-test .if2 .left) in
     simp (le-leb (genus w) 32 few, is-closed)
-    (λ i. given (record { genus = at-genus .genus-of .ensures i; multiplicity = c .before .multiplicity-of .ensures i; conductor = c .conductor-of .ensures i }))
+    (λ i. given (record { genus = at-genus .genus-of .ensures i; multiplicity = c .conductor-and-multiplicity .ensures .1 i; conductor = c .conductor-and-multiplicity .ensures .0 i }))
 
 pub look-spec : {M : Type 1} → statement M
 look-spec =
@@ -54,6 +51,5 @@ look-spec =
     returns
     is-closed-requires
     returns-2
-    multiplicity-of-requires
-    conductor-of-requires
+    conductor-and-multiplicity-requires
     returns-3)
