@@ -55,6 +55,17 @@ fn show_look(word: u64) {
     end();
 }
 
+// Conductor and multiplicity of a word, accepted or not.
+fn show_both(word: u64) {
+    text(b"conductor and multiplicity");
+    field(word);
+    text(b":");
+    let both = words::conductor_and_multiplicity(word);
+    field(both.conductor);
+    field(both.multiplicity);
+    end();
+}
+
 fn show_table(word: u64) {
     text(b"seed table");
     field(word);
@@ -106,6 +117,18 @@ fn example_of_001() {
     show_child(427392895, 30);
     show_child(427392895, 31);
     show_child(427392895, 33);
+}
+
+// Words of every kind: accepted and refused, with the gap 64 and without, and that of all gaps up to 64.
+fn any_word() {
+    show_both(0);
+    show_both(2);
+    show_both(13);
+    show_both(6148914691236517205);
+    show_both(9223372036854775807);
+    show_both(9223372036854775808);
+    show_both(18446744073709551614);
+    show_both(18446744073709551615);
 }
 
 // Words and elements at the ends of their range.
@@ -193,6 +216,7 @@ fn main() {
     example_1_4();
     example_1_5();
     example_of_001();
+    any_word();
     ends_of_range();
     windows();
 }
