@@ -4,7 +4,7 @@ use Prim.Native.Nat.{ℕ, _+_, _-_, _≤_, min}
 use mathlib.Core.Path.{_≡_, refl, sym, _∙_, ap, ap₂, subst, subst₂}
 use mathlib.Core.Logic.{_↔_}
 use mathlib.Core.Bool.{true}
-use mathlib.Core.List.{List, [], _∷_, _++_, map, append-nil, append-assoc}
+use mathlib.Core.List.{List, [], _∷_, _++_, map, append-nil, append-assoc, head-eq-of-cons-eq, tail-eq-of-cons-eq}
 use native.Mathlib.Omega.{arith}
 use lib.ListN.{length, take, drop, length-drop}
 use lib.Seq.{take-at, drop-at, take-add, drop-drop, length-front, length-take-le}
@@ -128,14 +128,12 @@ module _ (g lo hi : ℕ) where
   after-each calls h [] [] after c e = absurd (cons-nil (sym e))
   after-each calls h [] (b ∷ before) after c e = absurd (cons-nil (sym e))
   after-each calls h (lent ∷ lents) [] after c e =
-      let first : made g lo hi (r calls h lent) lent ≡ c = cc in
-      subst₂ (AfterCall L (length L)) (sym (append-nil calls)) first (after-one calls h lent)
+      subst₂ (AfterCall L (length L)) (sym (append-nil calls)) (head-eq-of-cons-eq e) (after-one calls h lent)
   after-each calls h (lent ∷ lents) (b ∷ before) after c e =
       let next : Call = made g lo hi (r calls h lent) lent in
-      let first : next ≡ b = cc in
-      let later : served (drop (k calls h lent) (r calls h lent)) lents ≡ before ++ c ∷ after = cc in
-      rw (← first, ← append-assoc calls (next ∷ []) before)
-      (after-each (calls ++ next ∷ []) (words calls h lent) lents before after c (ap (λ (t : List ℕ). served t lents) (sym (left calls h lent)) ∙ later))
+      rw (← head-eq-of-cons-eq e, ← append-assoc calls (next ∷ []) before)
+      (after-each (calls ++ next ∷ []) (words calls h lent) lents before after c
+      (ap (λ (t : List ℕ). served t lents) (sym (left calls h lent)) ∙ tail-eq-of-cons-eq e))
 
   -- the demand for the walk that has the window still to give
   demanded : g ≤ 32 → (answer : Answer Walk) → answer ≡ given (standing g lo hi L) → (lents : List (List ℕ)) → Demanded atlas answer L (length L) lents

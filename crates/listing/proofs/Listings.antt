@@ -4,7 +4,7 @@ use Prim.Native.Nat.{ℕ, _-_, _^_, _≤_, _<_, min}
 use mathlib.Core.Path.{_≡_, refl, sym, _∙_, ap, subst, subst₂}
 use mathlib.Core.Logic.{_↔_}
 use mathlib.Core.Bool.{Bool, true, false}
-use mathlib.Core.List.{List, [], _∷_, _++_, map, append-nil, append-assoc, List·Memᴰ, List·Memᴰ·head, List·Memᴰ·tail, Memᴰ·append-left, Memᴰ·append-right}
+use mathlib.Core.List.{List, [], _∷_, _++_, map, append-nil, append-assoc, head-eq-of-cons-eq, tail-eq-of-cons-eq, List·Memᴰ, List·Memᴰ·head, List·Memᴰ·tail, Memᴰ·append-left, Memᴰ·append-right}
 use native.Mathlib.Omega.{arith}
 use lib.ListN.{length, take, drop, length-append, length-take, length-drop, take-append-drop}
 use borrow.Author.Tests.{le-leb}
@@ -133,17 +133,15 @@ module _ (g : ℕ) (small : g ≤ 32) where
   after-each calls headed r h [] rooms (b ∷ before) after d e = absurd (cons-nil (sym e))
   after-each calls headed r h (lent ∷ lents) rooms [] after d e =
       let room = rooms lent (List·Memᴰ·head refl) in
-      let first : c calls headed r h lent room ≡ d = let f = turned-first calls headed r h lent room lents e in cc in
+      let first = head-eq-of-cons-eq (turned-first calls headed r h lent room lents e) in
       subst₂ (AfterPage g) (sym (append-nil calls)) first (after-page calls headed r h lent room)
   after-each calls headed r h (lent ∷ lents) rooms (b ∷ before) after d e =
       let room = rooms lent (List·Memᴰ·head refl) in
       let next : PageCall = c calls headed r h lent room in
-      let f = turned-first calls headed r h lent room lents e in
-      let first : next ≡ b = cc in
-      let later : pages (stood true (drop (n calls headed r h lent room) r)) lents ≡ before ++ d ∷ after = cc in
-      rw (← first, ← append-assoc calls (next ∷ []) before)
+      let parts = turned-first calls headed r h lent room lents e in
+      rw (← head-eq-of-cons-eq parts, ← append-assoc calls (next ∷ []) before)
       (after-each (calls ++ next ∷ []) true (drop (n calls headed r h lent room) r) (stands-on calls headed r h lent room) lents
-      (λ l m. rooms l (List·Memᴰ·tail m)) before after d later)
+      (λ l m. rooms l (List·Memᴰ·tail m)) before after d (tail-eq-of-cons-eq parts))
 
 lent-each : (l : Listing) (lents : List (List ℕ)) → map (λ c. c .lent) (pages l lents) ≡ lents
 unfolding pages
