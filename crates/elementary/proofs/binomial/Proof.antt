@@ -2,8 +2,7 @@
 -- Assumes nothing.
 use mathlib.Core.Path.{refl}
 use native.Mathlib.Omega.{arith}
-use Rattle.words.specs.Lists.{run, every}
-use Rattle.elementary.proofs.Binomials.{ruled, followsRule, entry-binomial}
+use Rattle.elementary.proofs.Binomials.{followsFrom, followsRule, entry-binomial}
 use Rattle.elementary.proofs.binomial.Statement.{statement}
 use Rattle.elementary.proofs.binomial.Tie as tie
 use Rattle.elementary.proofs.binomial.Reads as reads
@@ -23,7 +22,7 @@ array-read-result c = omega arith
 
 -- the table is read off the model of the code, where it stands behind the two arguments
 returns : tie.Need-returns
-unfolding run every ruled followsRule
+unfolding followsFrom followsRule
 returns c =
     let table = lts.m1 reads.Pre reads.Post (c .args) (c .blocks) .1 .1 .1 .0 in
     entry-binomial table refl (c .args .n) (c .args .k) (omega arith) (omega arith)
