@@ -10,20 +10,20 @@ use Rattle.words.proofs.conductor_and_multiplicity.Statement.{statement
 use Rattle.words.proofs.conductor_and_multiplicity.Tie as tie
 
 -- a count of bits is far below the numbers that 64 bits hold, and so is one more
-count-fits : {n : ℕ} → n ≤ 64 → (n < 2 ^ 64) × (n + 1 < 2 ^ 64)
-count-fits h = (omega arith, omega arith)
+bit-count-fits : {n : ℕ} → n ≤ 64 → (n < 2 ^ 64) × (n + 1 < 2 ^ 64)
+bit-count-fits h = (omega arith, omega arith)
 
 cast-conductor : tie.Need-cast-conductor
-cast-conductor c = record { fits = count-fits (leading-le 64 _) .0 }
+cast-conductor c = record { fits = bit-count-fits (leading-le 64 _) .0 }
 
 sub-conductor : tie.Need-sub-conductor
 sub-conductor c = le-trans (leading-le 64 _) (lit≤ tt)
 
 cast-multiplicity : tie.Need-cast-multiplicity
-cast-multiplicity c = record { fits = count-fits (trailing-le 64 _) .0 }
+cast-multiplicity c = record { fits = bit-count-fits (trailing-le 64 _) .0 }
 
 add-multiplicity : tie.Need-add-multiplicity
-add-multiplicity c = record { fits = count-fits (trailing-le 64 _) .1 }
+add-multiplicity c = record { fits = bit-count-fits (trailing-le 64 _) .1 }
 
 returns : tie.Need-returns
 returns c =
