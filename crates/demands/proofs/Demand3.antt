@@ -4,14 +4,14 @@ use Prim.Native.Nat.{ℕ, _+_, _-_, _≤_, min}
 use mathlib.Core.Path.{_≡_, refl, sym, _∙_, ap, ap₂, subst, subst₂}
 use mathlib.Core.Logic.{_↔_}
 use mathlib.Core.Bool.{true}
-use mathlib.Core.List.{List, [], _∷_, _++_, map, append-nil, append-assoc, head-eq-of-cons-eq, tail-eq-of-cons-eq}
+use mathlib.Core.List.{List, [], _∷_, _++_, map, append-nil, append-assoc, nil≢cons, head-eq-of-cons-eq, tail-eq-of-cons-eq}
 use native.Mathlib.Omega.{arith}
 use lib.ListN.{length, take, drop, length-drop}
 use lib.Seq.{take-at, drop-at, take-add, drop-drop, length-front, length-take-le}
 use Rattle.words.specs.Lists.{none, joined}
 use Rattle.words.specs.GenusList.{genusList}
 use Rattle.words.specs.Answers.{Answer, given}
-use Rattle.words.proofs.Lists.{none-iff, cons-nil, end-drop, joined-append}
+use Rattle.words.proofs.Lists.{none-iff, end-drop, joined-append}
 use Rattle.words.proofs.GenusList.{genus-list-all}
 use Rattle.windows.specs.Windows.{windowList}
 use Rattle.windows.proofs.Windows.{window-all, window-whole}
@@ -125,8 +125,8 @@ module _ (g lo hi : ℕ) where
   after-each : (calls : List Call) → WroteFirst calls → (lents : List (List ℕ)) (before after : List Call) (c : Call)
       → served (drop (N L calls) L) lents ≡ before ++ c ∷ after → AfterCall L (length L) (calls ++ before) c
   unfolding served
-  after-each calls h [] [] after c e = absurd (cons-nil (sym e))
-  after-each calls h [] (b ∷ before) after c e = absurd (cons-nil (sym e))
+  after-each calls h [] [] after c e = absurd (nil≢cons e)
+  after-each calls h [] (b ∷ before) after c e = absurd (nil≢cons e)
   after-each calls h (lent ∷ lents) [] after c e =
       subst₂ (AfterCall L (length L)) (sym (append-nil calls)) (head-eq-of-cons-eq e) (after-one calls h lent)
   after-each calls h (lent ∷ lents) (b ∷ before) after c e =

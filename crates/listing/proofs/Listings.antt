@@ -4,14 +4,14 @@ use Prim.Native.Nat.{ℕ, _-_, _^_, _≤_, _<_, min}
 use mathlib.Core.Path.{_≡_, refl, sym, _∙_, ap, subst, subst₂}
 use mathlib.Core.Logic.{_↔_}
 use mathlib.Core.Bool.{Bool, true, false}
-use mathlib.Core.List.{List, [], _∷_, _++_, map, append-nil, append-assoc, head-eq-of-cons-eq, tail-eq-of-cons-eq, List·Memᴰ, List·Memᴰ·head, List·Memᴰ·tail, Memᴰ·append-left, Memᴰ·append-right}
+use mathlib.Core.List.{List, [], _∷_, _++_, map, append-nil, append-assoc, nil≢cons, head-eq-of-cons-eq, tail-eq-of-cons-eq, List·Memᴰ, List·Memᴰ·head, List·Memᴰ·tail, Memᴰ·append-left, Memᴰ·append-right}
 use native.Mathlib.Omega.{arith}
 use lib.ListN.{length, take, drop, length-append, length-take, length-drop, take-append-drop}
 use borrow.Author.Tests.{le-leb}
 use Rattle.words.specs.Lists.{none, joined}
 use Rattle.words.specs.GenusList.{genusList}
 use Rattle.words.proofs.Booleans.{not-both}
-use Rattle.words.proofs.Lists.{none-iff, cons-nil, end-drop, joined-append, fronted-length, fronted-front, fronted-rest}
+use Rattle.words.proofs.Lists.{none-iff, end-drop, joined-append, fronted-length, fronted-front, fronted-rest}
 use Rattle.words.proofs.GenusList.{genus-list-mem}
 use Rattle.windows.proofs.Windows.{window-whole}
 use Rattle.walk.specs.Walks.{standing}
@@ -129,8 +129,8 @@ module _ (g : ℕ) (small : g ≤ 32) where
       → (lents : List (List ℕ)) → ((lent : List ℕ) → List·Memᴰ lent lents → 64 ≤ length lent)
       → (before after : List PageCall) (d : PageCall) → pages (stood headed r) lents ≡ before ++ d ∷ after → AfterPage g (calls ++ before) d
   unfolding pages
-  after-each calls headed r h [] rooms [] after d e = absurd (cons-nil (sym e))
-  after-each calls headed r h [] rooms (b ∷ before) after d e = absurd (cons-nil (sym e))
+  after-each calls headed r h [] rooms [] after d e = absurd (nil≢cons e)
+  after-each calls headed r h [] rooms (b ∷ before) after d e = absurd (nil≢cons e)
   after-each calls headed r h (lent ∷ lents) rooms [] after d e =
       let room = rooms lent (List·Memᴰ·head refl) in
       let first = head-eq-of-cons-eq (turned-first calls headed r h lent room lents e) in

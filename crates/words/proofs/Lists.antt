@@ -400,9 +400,6 @@ le-last d (y ∷ l) o (List·Memᴰ·tail m) = le-last y l (o .1) m
 
 -- ---- places in a list
 
-pub cons-nil : {A : Type 0} {x : A} {l : List A} → x ∷ l ≡ [] → ⊥
-cons-nil e = let z : _≡_ {A = ℕ} 0 1 = cc in omega arith
-
 -- x is in a list in which it stands between k and l
 pub mem-middle : {A : Type 0} (k l : List A) (x : A) → List·Memᴰ x (k ++ x ∷ l)
 mem-middle k l x = Memᴰ·append-right k (List·Memᴰ·head refl)
