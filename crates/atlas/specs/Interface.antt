@@ -4,6 +4,7 @@ use Prim.Native.Nat.{ℕ}
 use mathlib.Core.Bool.{Bool, true, false}
 use mathlib.Core.List.{List}
 use lib.Dec.{eqb, leb}
+use lib.IntN.{pos}
 use Rattle.words.specs.Answers.{Answer, refused, given, ask}
 use Rattle.words.specs.declared.Report.{Report}
 use Rattle.walk.specs.declared.Walk.{Walk}
@@ -22,8 +23,14 @@ numberIn (given v) = record { refused = 0; value = v }
 
 -- what is told of a word
 abbrev pub reportIn : Answer Report → AtlasReport
-reportIn (refused n) = record { refused = n; genus = 0; multiplicity = 0; conductor = 0 }
-reportIn (given r) = record { refused = 0; genus = r .genus; multiplicity = r .multiplicity; conductor = r .conductor }
+reportIn (refused n) = record { refused = n; genus = 0; multiplicity = 0; conductor = 0; «largest_gap» = pos 0 }
+reportIn (given r) = record {
+  refused = 0;
+  genus = r .genus;
+  multiplicity = r .multiplicity;
+  conductor = r .conductor;
+  «largest_gap» = r .«largest_gap»;
+}
 
 -- a finished mark as a byte
 abbrev pub markIn : Bool → ℕ

@@ -24,13 +24,14 @@ pub struct AtlasNumber {
     pub value: u64,
 }
 
-// What is told of a word, or the number of a refusal.
+// What is told of a word, or the number of a refusal. The conductor is the reported one.
 #[repr(C)]
 pub struct AtlasReport {
     pub refused: u64,
     pub genus: u64,
     pub multiplicity: u64,
     pub conductor: u64,
+    pub largest_gap: i64,
 }
 
 // A walk: its genus, the next word, the lowest and the highest multiplicity, and the finished mark, 0 or 1.
@@ -82,12 +83,14 @@ fn report_of(answer: LookAnswer) -> AtlasReport
             genus: 0,
             multiplicity: 0,
             conductor: 0,
+            largest_gap: 0,
         },
         LookAnswer::Given(report) => AtlasReport {
             refused: 0,
             genus: report.genus,
             multiplicity: report.multiplicity,
             conductor: report.conductor,
+            largest_gap: report.largest_gap,
         },
     }
 }
@@ -155,7 +158,7 @@ fn moved_of(walk: Walk, answer: BatchAnswer) -> AtlasMoved
     }
 }
 
-// Genus, multiplicity and conductor of a word. Questions 1, 2.
+// Genus, multiplicity, reported conductor and largest gap of a word. Questions 1, 2.
 #[no_mangle]
 pub extern "C" fn atlas_look(word: u64) -> AtlasReport
     ensures { λ r. ⌜ r ≡ reportIn (lookOf word) ⌝ }

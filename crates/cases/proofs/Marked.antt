@@ -4,6 +4,7 @@ use mathlib.Core.Path.{_≡_, _∙_, ap}
 use mathlib.Core.Bool.{true, false}
 use mathlib.Core.List.{List, [], _∷_, map}
 use native.Mathlib.Omega.{arith}
+use lib.IntN.{ℤ, pos, negsuc}
 use lib.ListN.{length, getD, drop}
 use Rattle.words.specs.Lists.{fronted}
 use Rattle.words.specs.GenusList.{genusList}
@@ -22,16 +23,16 @@ use Rattle.generators.proofs.Cases.{known-generators, known-words}
 use Rattle.elementary.specs.Answers.{elementaryOf}
 use Rattle.elementary.proofs.Cases.{known-counts}
 
--- what a look tells of a word of genus g, multiplicity m and conductor c
-abbrev lookGiven : ℕ → ℕ → ℕ → Answer Report
-lookGiven g m c = given record { genus = g; multiplicity = m; conductor = c }
+-- what a look tells of a word of genus g, multiplicity m, reported conductor c and largest gap f
+abbrev lookGiven : ℕ → ℕ → ℕ → ℤ → Answer Report
+lookGiven g m c f = given record { genus = g; multiplicity = m; conductor = c; «largest_gap» = f }
 
 pub record Marked : Type 0 where
-  pub word-0 : (lookOf 0 ≡ lookGiven 0 1 1) × (tableOf 0 ≡ given 1)
-  pub word-1 : (lookOf 1 ≡ lookGiven 1 2 2) × (tableOf 1 ≡ given 3)
-  pub word-5 : (lookOf 5 ≡ lookGiven 2 2 4) × (tableOf 5 ≡ given 14)
-  pub word-111 : (lookOf 111 ≡ lookGiven 6 5 8) × (tableOf 111 ≡ given 251)
-  pub word-91 : (lookOf 91 ≡ lookGiven 5 3 8) × (tableOf 91 ≡ given 237)
+  pub word-0 : (lookOf 0 ≡ lookGiven 0 1 0 (negsuc 0)) × (tableOf 0 ≡ given 1)
+  pub word-1 : (lookOf 1 ≡ lookGiven 1 2 2 (pos 1)) × (tableOf 1 ≡ given 3)
+  pub word-5 : (lookOf 5 ≡ lookGiven 2 2 4 (pos 3)) × (tableOf 5 ≡ given 14)
+  pub word-111 : (lookOf 111 ≡ lookGiven 6 5 8 (pos 7)) × (tableOf 111 ≡ given 251)
+  pub word-91 : (lookOf 91 ≡ lookGiven 5 3 8 (pos 7)) × (tableOf 91 ≡ given 237)
   -- in any list that holds them
   pub generators-of-91 : (lent : List ℕ) → 3 ≤ length lent → generatorsOf 91 lent ≡ giving 3 (3 ∷ 8 ∷ 10 ∷ drop 3 lent)
   pub word-13 : lookOf 13 ≡ refused 2
@@ -45,13 +46,15 @@ pub record Marked : Type 0 where
   pub generators-2-65 : (wordFromOf (2 ∷ 65 ∷ []) ≡ given 6148914691236517205) × ((e : ℕ) → childOf 6148914691236517205 e ≡ refused 3)
   pub generators-2-67 : wordFromOf (2 ∷ 67 ∷ []) ≡ refused 9
   pub generators-4-6 : wordFromOf (4 ∷ 6 ∷ []) ≡ refused 8
-  pub gaps-1-to-32 : lookOf 4294967295 ≡ lookGiven 32 33 33
+  pub gaps-1-to-32 : lookOf 4294967295 ≡ lookGiven 32 33 33 (pos 32)
   pub gaps-1-to-33 : lookOf 8589934591 ≡ refused 1
   pub elementary-5 : (elementaryOf 7 5 ≡ given 3) × (elementaryOf 10 5 ≡ given 0)
 
 -- one of the looks, and one of the tables, that `words` and `tables` compute
 look : (i : ℕ) → getD (map lookOf (0 ∷ 1 ∷ 5 ∷ 111 ∷ 91 ∷ 13 ∷ 4294967295 ∷ 8589934591 ∷ [])) i (refused 0)
-    ≡ getD (lookGiven 0 1 1 ∷ lookGiven 1 2 2 ∷ lookGiven 2 2 4 ∷ lookGiven 6 5 8 ∷ lookGiven 5 3 8 ∷ refused 2 ∷ lookGiven 32 33 33 ∷ refused 1 ∷ []) i (refused 0)
+    ≡ getD
+    (lookGiven 0 1 0 (negsuc 0) ∷ lookGiven 1 2 2 (pos 1) ∷ lookGiven 2 2 4 (pos 3) ∷ lookGiven 6 5 8 (pos 7) ∷ lookGiven 5 3 8 (pos 7)
+    ∷ refused 2 ∷ lookGiven 32 33 33 (pos 32) ∷ refused 1 ∷ []) i (refused 0)
 look i = ap (λ (l : List (Answer Report)). getD l i (refused 0)) known-looks
 
 number : {k l : List (Answer ℕ)} (i : ℕ) → k ≡ l → getD k i (refused 0) ≡ getD l i (refused 0)

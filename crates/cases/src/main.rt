@@ -9,6 +9,7 @@ use words::Element;
 use words::LookAnswer;
 use words::NumberAnswer;
 use words::Refusal;
+use words::Report;
 
 fn text(bytes: &[u8]) {
     io::write_all(STDOUT_FILENO, bytes);
@@ -18,6 +19,17 @@ fn text(bytes: &[u8]) {
 fn field(n: u64) {
     text(b" ");
     io::print_decimal(STDOUT_FILENO, n);
+}
+
+// A blank and a signed number: of the negative ones only -1 is told apart, which is that of no gaps.
+fn signed_field(n: i64) {
+    if n == -1 {
+        text(b" -1");
+    } else if n < 0 {
+        text(b" negative");
+    } else {
+        field(n as u64);
+    }
 }
 
 fn end() {
@@ -38,7 +50,14 @@ fn answer(a: NumberAnswer) {
     }
 }
 
-// Genus, multiplicity and conductor.
+// Genus, multiplicity, reported conductor and largest gap.
+fn fields_of(report: Report) {
+    field(report.genus);
+    field(report.multiplicity);
+    field(report.conductor);
+    signed_field(report.largest_gap);
+}
+
 fn show_look(word: u64) {
     text(b"look");
     field(word);
@@ -46,12 +65,17 @@ fn show_look(word: u64) {
     let a = words::look(word);
     match a {
         LookAnswer::Refused(r) => refusal(r),
-        LookAnswer::Given(report) => {
-            field(report.genus);
-            field(report.multiplicity);
-            field(report.conductor);
-        }
+        LookAnswer::Given(report) => fields_of(report),
     }
+    end();
+}
+
+// What is told of a word, accepted or not.
+fn show_told(word: u64) {
+    text(b"told of");
+    field(word);
+    text(b":");
+    fields_of(words::tell(word));
     end();
 }
 
@@ -131,6 +155,24 @@ fn any_word() {
     show_both(18446744073709551615);
 }
 
+// What is reported of the word without gaps, of the words after it, and of words that a look refuses. The conductor by which tables and
+// children are counted is that of source 000: the word 0 has one entry and its one child at 1.
+fn reported() {
+    show_look(0);
+    show_look(1);
+    show_look(4294967295);
+    show_look(6148914691236517205);
+    show_told(0);
+    show_told(2);
+    show_told(13);
+    show_told(9223372036854775807);
+    show_told(9223372036854775808);
+    show_told(18446744073709551615);
+    show_table(0);
+    show_child(0, 1);
+    show_child(0, 2);
+}
+
 // Words and elements at the ends of their range.
 fn ends_of_range() {
     show_look(18446744073709551615);
@@ -138,7 +180,6 @@ fn ends_of_range() {
     show_table(13);
     show_child(13, 5);
     show_child(6148914691236517205, 65);
-    show_child(0, 1);
     show_child(0, 0);
     show_child(0, 18446744073709551615);
 }
@@ -217,6 +258,7 @@ fn main() {
     example_1_5();
     example_of_001();
     any_word();
+    reported();
     ends_of_range();
     windows();
 }

@@ -1,6 +1,9 @@
-// Runs further cases of the papers on what comes after the walk: generators both ways, elementary counts, Kunz coordinates both ways and
-// the requests of the listing program. What it prints is held to the stored file, which was computed apart from the plain definitions.
+// Runs further cases of the papers on what comes after the walk: generators both ways, elementary counts, Kunz coordinates both ways, the
+// requests of the listing program and the listing of genus 0. What it prints is held to the stored file, which was computed apart from the
+// plain definitions.
 use libc::STDOUT_FILENO;
+use listing::ListingAnswer;
+use listing::PageAnswer;
 use words::NumberAnswer;
 use words::Refusal;
 
@@ -91,6 +94,27 @@ fn show_request(input: &[u8]) {
     text(b"request");
     bytes(input);
     answer(listing::request(input));
+}
+
+// The first n bytes of a list, as text.
+fn front(list: &[u8], n: usize) {
+    if n <= list.len() {
+        text(&list[..n]);
+    }
+}
+
+// The first page of the listing of a genus, in a list of 64 places.
+fn show_listing(genus: u64) {
+    let begun = listing::fresh(genus);
+    let ListingAnswer::Given(start) = begun else {
+        return;
+    };
+    let mut out = [0u8; 64];
+    let paged = listing::next_page(start, &mut out);
+    let answer = paged.answer;
+    if let PageAnswer::Given(page) = answer {
+        front(&out, page.bytes);
+    }
 }
 
 fn generators_out() {
@@ -194,4 +218,5 @@ fn main() {
     refused_coordinates();
     requests();
     malformed_requests();
+    show_listing(0);
 }

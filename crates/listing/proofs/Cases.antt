@@ -4,14 +4,28 @@ use mathlib.Core.Path.{_≡_, refl, ap}
 use mathlib.Core.List.{List, [], _∷_, _++_, map}
 use native.Mathlib.Omega.{arith}
 use lib.ListN.{length}
-use Rattle.words.specs.Lists.{run, keep, keepIf, every, joined, lastOr}
-use Rattle.words.specs.Words.{bit, setOf, gaps, largestGap, conductor}
+use Rattle.words.specs.Lists.{none, run, keep, keepIf, every, joined, lastOr}
+use Rattle.words.specs.Words.{bit, setOf, gaps, largestGap, conductor, reportedConductor}
 use Rattle.words.specs.Elements.{multiplicity}
 use Rattle.words.specs.Answers.{refused, given}
 use Rattle.words.proofs.Cases.{known-list}
 use Rattle.listing.specs.Decimal.{digits, decimal, isDigit, valueAfter}
 use Rattle.listing.specs.Text.{field, header, headerOf, lineOf, listingOf, refusalLine}
 use Rattle.listing.specs.Request.{wellFormed, requestOf, answerText, textOf}
+
+-- the line of the word 0, which has no gap: "0 0 1"
+pub line-zero : lineOf 0 ≡ 48 ∷ 32 ∷ 48 ∷ 32 ∷ 49 ∷ 10 ∷ []
+unfolding none run keep keepIf lastOr bit setOf gaps largestGap conductor reportedConductor multiplicity digits decimal field lineOf
+line-zero = refl
+
+-- the listing of genus 0:
+--     genus 0 count 1
+--     0 0 1
+pub listing-zero : listingOf 0
+    ≡ (103 ∷ 101 ∷ 110 ∷ 117 ∷ 115 ∷ 32 ∷ 48 ∷ 32 ∷ 99 ∷ 111 ∷ 117 ∷ 110 ∷ 116 ∷ 32 ∷ 49 ∷ 10 ∷ [])
+    ++ (48 ∷ 32 ∷ 48 ∷ 32 ∷ 49 ∷ 10 ∷ [])
+unfolding none run keep keepIf joined lastOr bit setOf gaps largestGap conductor reportedConductor multiplicity digits decimal field header headerOf lineOf listingOf
+listing-zero = ap (λ (l : List ℕ). header 0 (length l) ++ joined lineOf l) (known-list 0 (omega arith))
 
 -- the listing of genus 3:
 --     genus 3 count 4
@@ -25,7 +39,7 @@ pub listing-three : listingOf 3
     ++ (49 ∷ 49 ∷ 32 ∷ 53 ∷ 32 ∷ 51 ∷ 10 ∷ [])
     ++ (49 ∷ 57 ∷ 32 ∷ 54 ∷ 32 ∷ 51 ∷ 10 ∷ [])
     ++ (50 ∷ 49 ∷ 32 ∷ 54 ∷ 32 ∷ 50 ∷ 10 ∷ [])
-unfolding run keep keepIf joined lastOr bit setOf gaps largestGap conductor multiplicity digits decimal field header headerOf lineOf listingOf
+unfolding none run keep keepIf joined lastOr bit setOf gaps largestGap conductor reportedConductor multiplicity digits decimal field header headerOf lineOf listingOf
 listing-three =
     let list : List ℕ → List ℕ = λ l. 103 ∷ 101 ∷ 110 ∷ 117 ∷ 115 ∷ 32 ∷ 51 ∷ 32 ∷ 99 ∷ 111 ∷ 117 ∷ 110 ∷ 116 ∷ 32 ∷ [] ++ field (length l) 10 ++ joined lineOf l in
     ap list (known-list 3 (omega arith))

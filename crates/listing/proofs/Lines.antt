@@ -7,7 +7,7 @@ use native.Mathlib.Omega.{arith}
 use lib.Dec.{leb}
 use lib.ListN.{length, length-append}
 use Rattle.words.specs.Lists.{joined, fronted}
-use Rattle.words.specs.Words.{conductor}
+use Rattle.words.specs.Words.{reportedConductor}
 use Rattle.words.specs.Elements.{multiplicity}
 use Rattle.words.specs.GenusList.{genusList}
 use Rattle.words.specs.Answers.{Answer, refused, given, numberOf, answered, ask}
@@ -16,6 +16,7 @@ use Rattle.words.specs.declared.NumberAnswer.{NumberAnswer}
 use Rattle.words.specs.declared.NumberAnswer.the-variants as N
 use Rattle.words.proofs.Answers.{number-range}
 use Rattle.words.proofs.Lists.{length-joined-le}
+use Rattle.words.proofs.Reported.{reported-le}
 use Rattle.words.proofs.Operations.{conductor-le, multiplicity-le}
 use Rattle.words.proofs.Tree.{genus-count-fits}
 use Rattle.listing.specs.Decimal.{decimal}
@@ -36,12 +37,12 @@ pub field-le-3 : (n end : ℕ) → n < 100 → length (field n end) ≤ 3
 field-le-3 n end h = field-le n end 1 (omega arith) (omega arith)
 
 -- the parts of a line
-pub line-from : (w : ℕ) {c m : ℕ} → c ≡ conductor w → m ≡ multiplicity w → lineOf w ≡ field w blank ++ field c blank ++ field m lineFeed
+pub line-from : (w : ℕ) {c m : ℕ} → c ≡ reportedConductor w → m ≡ multiplicity w → lineOf w ≡ field w blank ++ field c blank ++ field m lineFeed
 unfolding lineOf
 line-from w p q = ap₂ (λ (c m : ℕ). field w blank ++ field c blank ++ field m lineFeed) (sym p) (sym q)
 
 -- and their lengths
-pub line-parts : (w : ℕ) {c m : ℕ} → c ≡ conductor w → m ≡ multiplicity w
+pub line-parts : (w : ℕ) {c m : ℕ} → c ≡ reportedConductor w → m ≡ multiplicity w
     → length (lineOf w) ≡ length (field w blank) + length (field c blank) + length (field m lineFeed)
 line-parts w p q = ap length (line-from w p q) ∙ simp length-append
 
@@ -56,7 +57,7 @@ line-le w fits =
       arith,
       line-parts w refl refl,
       field-le w blank 19 fits (omega arith),
-      field-le-3 (conductor w) blank (omega (arith, conductor-le w fits)),
+      field-le-3 (reportedConductor w) blank (omega (arith, reported-le w, conductor-le w fits)),
       field-le-3 (multiplicity w) lineFeed (omega (arith, multiplicity-le w fits)),
     )
 

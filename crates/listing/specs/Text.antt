@@ -4,7 +4,7 @@ use mathlib.Core.List.{List, [], _∷_, _++_}
 use lib.Dec.{leb}
 use lib.ListN.{length}
 use Rattle.words.specs.Lists.{joined, fronted}
-use Rattle.words.specs.Words.{conductor}
+use Rattle.words.specs.Words.{reportedConductor}
 use Rattle.words.specs.Elements.{multiplicity}
 use Rattle.words.specs.GenusList.{genusList}
 use Rattle.words.specs.Answers.{Answer, refused, given, ask}
@@ -39,9 +39,9 @@ header genus count = genusWord ++ field genus blank ++ countWord ++ field count 
 unfoldable pub headerOf : ℕ → List ℕ
 headerOf g = header g (length (genusList g))
 
--- the line of a semigroup: its word, conductor and multiplicity
+-- the line of a semigroup: its word, the reported conductor and the multiplicity
 unfoldable pub lineOf : ℕ → List ℕ
-lineOf w = field w blank ++ field (conductor w) blank ++ field (multiplicity w) lineFeed
+lineOf w = field w blank ++ field (reportedConductor w) blank ++ field (multiplicity w) lineFeed
 
 -- the listing of genus g: the header, and the lines of all semigroups of the genus in list order
 unfoldable pub listingOf : ℕ → List ℕ

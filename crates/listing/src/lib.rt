@@ -134,10 +134,10 @@ fn put_line(out: &mut [u8], at: usize, word: u64) -> usize
     requires { ⌜ at + 27 ≤ length (now out) ⌝ }
     ensures { λ r. ⌜ Puts (now (out .entry)) at (lineOf word) (now (out .exit)) r ⌝ }
 {
-    let both = words::conductor_and_multiplicity(word);
+    let told = words::tell(word);
     let first = put_field(out, at, word, b' ');
-    let second = put_field(out, first, both.conductor, b' ');
-    put_field(out, second, both.multiplicity, b'\n')
+    let second = put_field(out, first, told.conductor, b' ');
+    put_field(out, second, told.multiplicity, b'\n')
 }
 
 // Writes the lines of semigroups.

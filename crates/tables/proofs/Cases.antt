@@ -1,11 +1,12 @@
 -- The known tables, children and nodes, computed from the definitions. Assumes nothing.
 use Prim.Native.Nat.{ℕ}
 use mathlib.Core.Path.{_≡_, refl}
+use mathlib.Core.Bool.{true}
 use mathlib.Core.List.{[], _∷_, map}
 use Rattle.words.specs.Lists.{run, keep, keepIf, every, joined, lastOr}
 use Rattle.words.specs.Sets.{sumOfTwo}
 use Rattle.words.specs.Words.{bit, setOf, gaps, genus, digit, largestGap, conductor, closed, childWord, ofBits}
-use Rattle.words.specs.Elements.{elementsBelow, elementAt, generator}
+use Rattle.words.specs.Elements.{elementsBelow, elementAt, multiplicity, generator, rightGenerators}
 use Rattle.words.specs.Answers.{refused, given, askWord}
 use Rattle.tables.specs.Seeds.{leftAfter, seed, row, seedBits, seedTable}
 use Rattle.tables.specs.Child.{struck, struckBits, padded, lastThreeSet, childBits}
@@ -17,6 +18,12 @@ pub known-tables : map tableOf (0 ∷ 1 ∷ 5 ∷ 111 ∷ 91 ∷ 13 ∷ 85899345
     ≡ given 1 ∷ given 3 ∷ given 14 ∷ given 251 ∷ given 237 ∷ refused 2 ∷ refused 1 ∷ []
 unfolding run keep keepIf every joined bit setOf gaps genus lastOr largestGap conductor closed elementsBelow elementAt sumOfTwo leftAfter seed row seedBits digit ofBits seedTable askWord tableOf
 known-tables = refl
+
+-- the word 0, by the conductor of source 000, which is 1: one row of one entry, and its one generator from there on, at which it has its
+-- child, is 1
+pub word-zero : (conductor 0 ≡ 1) × (seedBits 0 ≡ true ∷ []) × (rightGenerators 0 ≡ 1 ∷ [])
+unfolding run keep keepIf every joined bit setOf gaps genus lastOr largestGap conductor elementsBelow elementAt multiplicity generator rightGenerators sumOfTwo leftAfter seed row seedBits
+word-zero = (refl, refl, refl)
 
 -- the tables of the four children of the word 111, example 1.4 of source 000, by rows
 pub known-child-bits : map (λ d. ofBits (childBits 111 d)) (0 ∷ 1 ∷ 3 ∷ 4 ∷ []) ≡ 509 ∷ 950 ∷ 3585 ∷ 7168 ∷ []

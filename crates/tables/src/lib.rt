@@ -11,7 +11,7 @@ use words::NumberAnswer;
 use words::Offset;
 use words::Refusal;
 
-// A semigroup under way.
+// A semigroup under way: its word, its seed table and its conductor, which is that of source 000.
 pub struct Node {
     pub word: u64,
     pub table: u64,

@@ -1,7 +1,7 @@
 -- That the number of a refusal tells the refusal, how an answer tells which of three questions was answered no, which words are accepted,
 -- what a look at a word tells a caller, and what a call that lists numbers of a word does. Assumes nothing.
 use Prim.Native.Nat.{ℕ, _-_, _^_, _≤_, _<_}
-use mathlib.Core.Path.{_≡_, refl, sym, _∙_, ap}
+use mathlib.Core.Path.{_≡_, refl, sym, _∙_, ap, subst}
 use mathlib.Core.Logic.{_↔_}
 use mathlib.Core.Bool.{Bool, true, false}
 use mathlib.Core.List.{List, [], _∷_}
@@ -10,12 +10,16 @@ use lib.Dec.{leb}
 use lib.ListN.{length, getD}
 use borrow.Author.Tests.{leb-true, le-leb, lt-leb}
 use Rattle.words.specs.Lists.{fronted}
-use Rattle.words.specs.Sets.{ClosedUnderAddition}
+use Rattle.words.specs.Sets.{Set, ClosedUnderAddition}
 use Rattle.words.specs.Words.{setOf, genus, closed}
-use Rattle.words.specs.Answers.{Answer, Accepted, refused, given, numberOf, ask, askWord, reportOf, lookOf, ListAnswer, unchanged, filled, listedInto, giving}
+use Rattle.words.specs.Answers.{Answer, Accepted, refused, given, numberOf, ask, askWord, reportOf, Tells, lookOf, ListAnswer, unchanged, filled, listedInto, giving}
 use Rattle.words.specs.declared.Refusal.{Refusal}
 use Rattle.words.specs.declared.Refusal.the-variants.{TooManyGaps, NotClosed, GenusTooLarge, WalkOutOfOrder, NotAGenerator, ListTooShort, ZeroGenerator, CommonDivisor, TooManyGapsGenerated, MalformedInput, ZeroCoordinate, CoordinateSumTooLarge, FailedInequality}
 use Rattle.words.specs.declared.Report.{Report}
+use Rattle.words.proofs.Sets.{genus-unique, multiplicity-unique}
+use Rattle.words.proofs.Words.{word-genus}
+use Rattle.words.proofs.Elements.{set-multiplicity}
+use Rattle.words.proofs.Reported.{reported-unique, largest-unique, reported-conductor-of, signed-largest-gap-of}
 use Rattle.words.proofs.Closure.{closed-iff}
 
 -- ---- numbers of refusals
@@ -140,6 +144,29 @@ asked-refused refuse w answer n e = word-refused w (reportOf w) refuse answer n 
 pub look-given : (w : ℕ) (r : Report) → lookOf w ≡ given r → Accepted w × (r ≡ reportOf w)
 unfolding lookOf
 look-given w r e = word-given w (reportOf w) r e
+
+-- what is told of a word of 64 bits are the numbers of its set
+pub report-tells : (w : ℕ) → w < 2 ^ 64 → Tells (reportOf w) (setOf w)
+unfolding reportOf
+report-tells w fits = record {
+  genus = word-genus w fits;
+  multiplicity = set-multiplicity w fits;
+  conductor = reported-conductor-of w fits;
+  largest-gap = signed-largest-gap-of w fits;
+}
+
+-- so that a look tells them
+pub look-tells : (w : ℕ) → w < 2 ^ 64 → (r : Report) → lookOf w ≡ given r → Tells r (setOf w)
+look-tells w fits r e = subst (λ (q : Report). Tells q (setOf w)) (sym (look-given w r e .1)) (report-tells w fits)
+
+-- and no other report does
+pub tells-unique : (S : Set) (q r : Report) → Tells q S → Tells r S → q ≡ r
+tells-unique S q r t u = λ i. record {
+  genus = genus-unique S (q .genus) (r .genus) (t .genus) (u .genus) i;
+  multiplicity = multiplicity-unique S (q .multiplicity) (r .multiplicity) (t .multiplicity) (u .multiplicity) i;
+  conductor = reported-unique S (q .conductor) (r .conductor) (t .conductor) (u .conductor) i;
+  «largest_gap» = largest-unique S (q .«largest_gap») (r .«largest_gap») (t .largest-gap) (u .largest-gap) i;
+}
 
 -- demand 2: a word of 64 bits is accepted just where its set is closed under addition and it has at most 32 gaps
 pub accepted-iff : (w : ℕ) → w < 2 ^ 64 → (lookOf w ≡ given (reportOf w)) ↔ (ClosedUnderAddition (setOf w) × (genus w ≤ 32))

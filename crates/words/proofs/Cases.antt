@@ -5,10 +5,11 @@ use mathlib.Core.Path.{_≡_, refl, sym, _∙_, ap}
 use mathlib.Core.List.{List, [], _∷_, map}
 use native.Mathlib.Omega.{arith}
 use native.Mathlib.Nat.{zero-add}
+use lib.IntN.{pos, negsuc}
 use lib.ListN.{length, getD}
-use Rattle.words.specs.Lists.{run, keep, keepIf, every, joined, lastOr}
+use Rattle.words.specs.Lists.{none, run, keep, keepIf, every, joined, lastOr}
 use Rattle.words.specs.Sets.{sumOfTwo}
-use Rattle.words.specs.Words.{bit, setOf, gaps, genus, largestGap, conductor, closed, childWord}
+use Rattle.words.specs.Words.{bit, setOf, gaps, genus, largestGap, conductor, reportedConductor, signedLargestGap, closed, childWord}
 use Rattle.words.specs.Elements.{multiplicity, generator, rightGenerators}
 use Rattle.words.specs.GenusList.{genusList}
 use Rattle.words.specs.Answers.{refused, given, askWord, reportOf, lookOf}
@@ -36,16 +37,16 @@ known-list g h = sym (getD-map-run genusList [] 0 5 g h ∙ ap genusList (zero-a
 
 -- the looks at the words 0, 1, 5, 111, 91, 13, that of the gaps 1 to 32, and that of the gaps 1 to 33
 pub known-looks : map lookOf (0 ∷ 1 ∷ 5 ∷ 111 ∷ 91 ∷ 13 ∷ 4294967295 ∷ 8589934591 ∷ [])
-    ≡ given (record { genus = 0; multiplicity = 1; conductor = 1 })
-    ∷ given (record { genus = 1; multiplicity = 2; conductor = 2 })
-    ∷ given (record { genus = 2; multiplicity = 2; conductor = 4 })
-    ∷ given (record { genus = 6; multiplicity = 5; conductor = 8 })
-    ∷ given (record { genus = 5; multiplicity = 3; conductor = 8 })
+    ≡ given (record { genus = 0; multiplicity = 1; conductor = 0; «largest_gap» = negsuc 0 })
+    ∷ given (record { genus = 1; multiplicity = 2; conductor = 2; «largest_gap» = pos 1 })
+    ∷ given (record { genus = 2; multiplicity = 2; conductor = 4; «largest_gap» = pos 3 })
+    ∷ given (record { genus = 6; multiplicity = 5; conductor = 8; «largest_gap» = pos 7 })
+    ∷ given (record { genus = 5; multiplicity = 3; conductor = 8; «largest_gap» = pos 7 })
     ∷ refused 2
-    ∷ given (record { genus = 32; multiplicity = 33; conductor = 33 })
+    ∷ given (record { genus = 32; multiplicity = 33; conductor = 33; «largest_gap» = pos 32 })
     ∷ refused 1
     ∷ []
-unfolding run keep keepIf every lastOr sumOfTwo bit setOf gaps genus largestGap conductor closed multiplicity askWord reportOf lookOf
+unfolding none run keep keepIf every lastOr sumOfTwo bit setOf gaps genus largestGap conductor reportedConductor signedLargestGap closed multiplicity askWord reportOf lookOf
 known-looks = refl
 
 -- the conductors and the multiplicities of words of which only the first is accepted: 0, 2, 13, the largest without the gap 64, that of

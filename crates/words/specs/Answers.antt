@@ -8,7 +8,8 @@ use mathlib.Core.List.{List}
 use lib.Dec.{leb}
 use lib.ListN.{length}
 use Rattle.words.specs.Lists.{fronted}
-use Rattle.words.specs.Words.{genus, conductor, closed}
+use Rattle.words.specs.Sets.{Set, HasGenus, MultiplicityOf, SignedLargestGapOf, ReportedConductorOf}
+use Rattle.words.specs.Words.{genus, reportedConductor, signedLargestGap, closed}
 use Rattle.words.specs.Elements.{multiplicity}
 use Rattle.words.specs.declared.Refusal.{Refusal}
 use Rattle.words.specs.declared.Refusal.the-variants.{TooManyGaps, NotClosed, GenusTooLarge, WalkOutOfOrder, NotAGenerator, ListTooShort, ZeroGenerator, CommonDivisor, TooManyGapsGenerated, MalformedInput, ZeroCoordinate, CoordinateSumTooLarge, FailedInequality}
@@ -59,10 +60,18 @@ pub record Accepted (w : ℕ) : Type 0 where
 
 -- ---- a look at a word
 
--- what is told of an accepted word
+-- what is told of a word: its genus, its multiplicity, its reported conductor and its largest gap as a signed number
 unfoldable pub reportOf : ℕ → Report
-reportOf w = record { genus = genus w; multiplicity = multiplicity w; conductor = conductor w }
+reportOf w = record { genus = genus w; multiplicity = multiplicity w; conductor = reportedConductor w; «largest_gap» = signedLargestGap w }
 
+-- r tells the genus, the multiplicity, the reported conductor and the largest gap of the set S
+pub record Tells (r : Report) (S : Set) : Type 0 where
+  pub genus : HasGenus S (r .genus)
+  pub multiplicity : MultiplicityOf S (r .multiplicity)
+  pub conductor : ReportedConductorOf S (r .conductor)
+  pub largest-gap : SignedLargestGapOf S (r .«largest_gap»)
+
+-- a look: questions 1 and 2
 unfoldable pub lookOf : ℕ → Answer Report
 lookOf w = askWord refused w (given (reportOf w))
 

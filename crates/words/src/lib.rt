@@ -5,7 +5,7 @@ ghost use lib.Dec.{ltb};
 ghost use Rattle.words.specs.Lists.{every};
 ghost use Rattle.words.specs.Words.{genus, conductor, closed};
 ghost use Rattle.words.specs.Elements.{multiplicity};
-ghost use Rattle.words.specs.Answers.{numberOf, looked, lookOf};
+ghost use Rattle.words.specs.Answers.{numberOf, looked, reportOf, lookOf};
 
 // An element of a set.
 pub struct Element(pub u64);
@@ -98,14 +98,15 @@ impl Refusal {
     }
 }
 
-// What is told of an accepted word.
+// What is told of a word: the conductor is the reported one, 0 where there is no gap, and the largest gap is then -1.
 pub struct Report {
     pub genus: u64,
     pub multiplicity: u64,
     pub conductor: u64,
+    pub largest_gap: i64,
 }
 
-// The conductor and the multiplicity of a word, accepted or not.
+// The conductor of source 000 and the multiplicity of a word, accepted or not.
 pub struct ConductorAndMultiplicity {
     pub conductor: u64,
     pub multiplicity: u64,
@@ -130,8 +131,9 @@ pub fn genus_of(word: u64) -> u64
     u64::count_ones(word) as u64
 }
 
-// The largest gap plus 1 of any word, 1 where there is none, and its least positive element, in one pass over the bits: the clear bits above
-// the highest standing one are counted from the top, the standing bits below the lowest clear one from the bottom, and no bit twice.
+// The conductor of source 000 of any word, its largest gap plus 1 and 1 where there is none, and its least positive element, in one pass
+// over the bits: the clear bits above the highest standing one are counted from the top, the standing bits below the lowest clear one from
+// the bottom, and no bit twice.
 pub fn conductor_and_multiplicity(word: u64) -> ConductorAndMultiplicity
     ensures { λ r. ⌜ (r .conductor ≡ conductor word) × (r .multiplicity ≡ multiplicity word) ⌝ }
 {
@@ -150,7 +152,7 @@ pub fn multiplicity_of(word: u64) -> u64
     conductor_and_multiplicity(word).multiplicity
 }
 
-// The largest gap plus 1 of any word, 1 where there is none.
+// The conductor of source 000 of any word: the largest gap plus 1, and 1 where there is none.
 pub fn conductor_of(word: u64) -> u64
     ensures { λ r. ⌜ r ≡ conductor word ⌝ }
 {
@@ -170,6 +172,30 @@ fn is_closed(word: u64) -> bool
     true
 }
 
+// What is told of any word, accepted or not: the word 0 has no gap, and of every other word the reported conductor is that of source 000.
+pub fn tell(word: u64) -> Report
+    ensures { λ r. ⌜ r ≡ reportOf word ⌝ }
+{
+    let genus = genus_of(word);
+    let both = conductor_and_multiplicity(word);
+    if word == 0 {
+        return Report {
+            genus,
+            multiplicity: both.multiplicity,
+            conductor: 0,
+            largest_gap: -1,
+        };
+    }
+    let largest = both.conductor - 1;
+    let largest_gap = largest as i64;
+    Report {
+        genus,
+        multiplicity: both.multiplicity,
+        conductor: both.conductor,
+        largest_gap,
+    }
+}
+
 // Looks at a word: refused with more than 32 gaps or a set that is not closed under addition, else what is told of it.
 pub fn look(word: u64) -> LookAnswer
     ensures { λ r. ⌜ looked r ≡ lookOf word ⌝ }
@@ -181,12 +207,7 @@ pub fn look(word: u64) -> LookAnswer
     if !is_closed(word) {
         return LookAnswer::Refused(Refusal::NotClosed);
     }
-    let both = conductor_and_multiplicity(word);
-    LookAnswer::Given(Report {
-        genus,
-        multiplicity: both.multiplicity,
-        conductor: both.conductor,
-    })
+    LookAnswer::Given(tell(word))
 }
 
 // Are all bytes of a list at least 1?

@@ -1,4 +1,5 @@
 -- `atlas::report_of` meets its contract: the struct is computed from the case of the answer. Assumes nothing.
+use lib.IntN.{pos}
 use borrow.Author.Needs.{needs}
 use Rattle.atlas.proofs.report_of.Statement.{statement}
 use Rattle.atlas.proofs.report_of.Tie as tie
@@ -13,10 +14,10 @@ enum-known-answer-2 : tie.Need-enum-known-answer-2
 enum-known-answer-2 c = search needs
 
 returns : tie.Need-returns
-returns c = rw (c .before .before .answer .given .1) (λ i. record { refused = c .number .ensures i; genus = 0; multiplicity = 0; conductor = 0 })
+returns c = rw (c .before .before .answer .given .1) (λ i. record { refused = c .number .ensures i; genus = 0; multiplicity = 0; conductor = 0; «largest_gap» = pos 0 })
 
 returns-2 : tie.Need-returns-2
-returns-2 c = rw (c .before .answer2 .given .1)
+returns-2 c = rw (c .before .before .answer2 .given .1) (search needs)
 
 pub report-of-spec : {M : Type 1} → statement M
 report-of-spec =

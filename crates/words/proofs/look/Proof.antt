@@ -1,12 +1,12 @@
 -- `words::look` meets its contract: each answer computes by the tests that led there. Assumes nothing.
 use Prim.Native.Nat.{ℕ, _≤_}
-use mathlib.Core.Path.{_≡_, sym, _∙_}
+use mathlib.Core.Path.{_≡_, sym, ap, _∙_}
 use mathlib.Core.Bool.{true, false}
 use native.Mathlib.Omega.{arith}
 use borrow.Author.Needs.{needs}
 use borrow.Author.Tests.{lt-leb, le-leb, not-true, not-false}
 use Rattle.words.specs.Words.{genus, closed}
-use Rattle.words.specs.Answers.{given, askWord, lookOf, reportOf}
+use Rattle.words.specs.Answers.{given, askWord, lookOf}
 use Rattle.words.proofs.look.Statement.{statement}
 use Rattle.words.proofs.look.Tie as tie
 
@@ -29,27 +29,18 @@ returns-2 c =
     let not-closed : closed w ≡ false = sym (c .before .is-closed .ensures) ∙ not-true _ (c .if2 .taken) in
     simp (le-leb (genus w) 32 few, not-closed)
 
-conductor-and-multiplicity-requires : tie.Need-conductor-and-multiplicity-requires
-conductor-and-multiplicity-requires c κs = search needs
+tell-requires : tie.Need-tell-requires
+tell-requires c κs = search needs
 
 returns-3 : tie.Need-returns-3
-unfolding lookOf askWord reportOf
+unfolding lookOf askWord
 returns-3 c =
     let at-test = c .before in
     let at-genus = at-test .before .before .before in
     let w : ℕ = at-genus .before .args .word in
     let few : genus w ≤ 32 = omega (arith, at-genus .genus-of .ensures) in
     let is-closed : closed w ≡ true = sym (at-test .before .is-closed .ensures) ∙ not-false _ (at-test .if2 .left) in
-    simp (le-leb (genus w) 32 few, is-closed)
-    (λ i. given (record { genus = at-genus .genus-of .ensures i; multiplicity = c .conductor-and-multiplicity .ensures .1 i; conductor = c .conductor-and-multiplicity .ensures .0 i }))
+    simp (le-leb (genus w) 32 few, is-closed) (ap given (c .tell .ensures))
 
 pub look-spec : {M : Type 1} → statement M
-look-spec =
-    tie.close
-    (tie.spec
-    genus-of-requires
-    returns
-    is-closed-requires
-    returns-2
-    conductor-and-multiplicity-requires
-    returns-3)
+look-spec = tie.close (tie.spec genus-of-requires returns is-closed-requires returns-2 tell-requires returns-3)
