@@ -18,6 +18,7 @@ struct Report {
     genus: u64,
     multiplicity: u64,
     conductor: u64,
+    largest_gap: i64,
 }
 
 #[repr(C)]
@@ -131,8 +132,19 @@ fn word_refused(word: u64) -> Option<u64> {
     }
 }
 
+/// The conductor of the seeds paper: the largest gap plus 1, and 1 where there is none.
 fn conductor(word: u64) -> u64 {
     gaps(word).last().map_or(1, |f| f + 1)
+}
+
+/// The reported conductor: the least number from which on all belong to the set, as those above 64 do.
+fn reported_conductor(word: u64) -> u64 {
+    (0..=65).find(|&n| (n..=65).all(|x| holds(word, x))).unwrap()
+}
+
+/// The largest gap, and -1 where there is none.
+fn largest_gap(word: u64) -> i64 {
+    gaps(word).last().map_or(-1, |&f| f as i64)
 }
 
 fn multiplicity(word: u64) -> u64 {
@@ -398,8 +410,10 @@ impl Kind {
 
 // ---- the calls
 
+/// Looks at random words; refusals of each number and the word 0 are met.
 fn looks(n: u64, words: &Words, r: &mut Random) -> Kind {
     let mut kind = Kind::new("look");
+    let mut met = [0u64; 4];
     for _ in 0..n {
         let w = words.any(r);
         let plain = match word_refused(w) {
@@ -408,16 +422,20 @@ fn looks(n: u64, words: &Words, r: &mut Random) -> Kind {
                 genus: 0,
                 multiplicity: 0,
                 conductor: 0,
+                largest_gap: 0,
             },
             None => Report {
                 refused: 0,
                 genus: gaps(w).len() as u64,
                 multiplicity: multiplicity(w),
-                conductor: conductor(w),
+                conductor: reported_conductor(w),
+                largest_gap: largest_gap(w),
             },
         };
+        met[if w == 0 { 3 } else { plain.refused as usize }] += 1;
         kind.same(unsafe { atlas_look(w) }, plain, &|| w.to_string());
     }
+    assert!(met.iter().all(|&q| q > n / 100), "each answer and the word 0 are met: {met:?}");
     kind
 }
 

@@ -19,8 +19,9 @@ static void check(bool holds, const char *what, int line) {
 
 static bool number_is(atlas_number a, uint64_t refused, uint64_t value) { return a.refused == refused && a.value == value; }
 
-static bool report_is(atlas_report r, uint64_t refused, uint64_t genus, uint64_t multiplicity, uint64_t conductor) {
-  return r.refused == refused && r.genus == genus && r.multiplicity == multiplicity && r.conductor == conductor;
+static bool report_is(atlas_report r, uint64_t refused, uint64_t genus, uint64_t multiplicity, uint64_t conductor, int64_t largest_gap) {
+  return r.refused == refused && r.genus == genus && r.multiplicity == multiplicity && r.conductor == conductor &&
+         r.largest_gap == largest_gap;
 }
 
 static bool walk_is(atlas_walk w, uint64_t genus, uint64_t word, uint8_t lowest, uint8_t highest, uint8_t finished) {
@@ -35,10 +36,20 @@ static bool begun_is(atlas_begun b, uint64_t refused, uint64_t genus, uint64_t w
 static const uint64_t too_many = 8589934591, not_closed = 13, of_genus_32 = 6148914691236517205;
 
 static void words(void) {
-  CHECK(report_is(atlas_look(0), 0, 0, 1, 1));
-  CHECK(report_is(atlas_look(91), 0, 5, 3, 8));
-  CHECK(report_is(atlas_look(too_many), 1, 0, 0, 0));
-  CHECK(report_is(atlas_look(not_closed), 2, 0, 0, 0));
+  CHECK(report_is(atlas_look(91), 0, 5, 3, 8, 7));
+  CHECK(report_is(atlas_look(of_genus_32), 0, 32, 2, 64, 63));
+  CHECK(report_is(atlas_look(too_many), 1, 0, 0, 0, 0));
+  CHECK(report_is(atlas_look(not_closed), 2, 0, 0, 0, 0));
+}
+
+/* The semigroup without gaps by both conventions (atlas.h): reported are conductor 0 and largest gap -1; by the paper's conductor, 1, its
+   seed table has one entry, and its child is at 1 and nowhere else. */
+static void both_conventions(void) {
+  CHECK(report_is(atlas_look(0), 0, 0, 1, 0, -1));
+  CHECK(number_is(atlas_seed_table(0), 0, 1));
+  CHECK(number_is(atlas_child(0, 1), 0, 1));
+  CHECK(number_is(atlas_child(0, 0), 5, 0));
+  CHECK(number_is(atlas_child(0, 2), 5, 0));
 }
 
 static void tables(void) {
@@ -173,6 +184,7 @@ static void coordinates(void) {
 
 int main(void) {
   words();
+  both_conventions();
   tables();
   beginnings();
   batches();

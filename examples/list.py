@@ -13,7 +13,7 @@ class Number(ctypes.Structure):
 
 
 class Report(ctypes.Structure):
-    _fields_ = [("refused", u64), ("genus", u64), ("multiplicity", u64), ("conductor", u64)]
+    _fields_ = [("refused", u64), ("genus", u64), ("multiplicity", u64), ("conductor", u64), ("largest_gap", ctypes.c_int64)]
 
 
 class Walk(ctypes.Structure):

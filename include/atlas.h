@@ -3,6 +3,12 @@
    A gap word has 64 bits: bit i stands when i + 1 is a gap, and every number above 64 belongs to the set. A word is accepted when it
    has at most 32 gaps and its set is closed under addition.
 
+   Two conventions meet at the word 0, the semigroup without gaps, and differ nowhere else. Reported, by atlas_look and in the lines of the
+   listing program, are the numbers of other algebra packages: the conductor is the least number from which on all belong to the set, 0
+   for the word 0, and the largest gap, one less, is -1 there. Counted by, in seed tables and children, is the conductor of the seeds
+   paper: the largest gap plus 1, and 1 for the word 0, whose seed table has one entry and whose child is at 1. Below, "the conductor"
+   is the paper's wherever it is not called reported.
+
    No call asks anything of its arguments, and every call returns. In each answer `refused` comes first: 0 for an answer, otherwise the
    number of the refusal, and then all values are 0, no list is written and a walk comes back as it was given. A list is a pointer and a
    length; a list of length 0 may have any pointer that is not null. Lists that are lent for writing must not be touched by others during
@@ -33,12 +39,13 @@ typedef struct {
   uint64_t value;
 } atlas_number;
 
-/* What is told of an accepted word. The conductor is the largest gap plus 1, and 1 for the word 0. */
+/* What is told of an accepted word: the conductor here is the reported one, and the largest gap is one less. */
 typedef struct {
   uint64_t refused;
   uint64_t genus;
   uint64_t multiplicity;
   uint64_t conductor;
+  int64_t largest_gap;
 } atlas_report;
 
 /* A walk over the semigroups of a genus with a multiplicity from the lowest to the highest, in list order: the next word, or 0 when
@@ -65,7 +72,7 @@ typedef struct {
   bool finished;
 } atlas_moved;
 
-/* Genus, multiplicity and conductor of a word. Refusals 1, 2. */
+/* Genus, multiplicity, reported conductor and largest gap of a word; 0, 1, 0 and -1 for the word 0. Refusals 1, 2. */
 atlas_report atlas_look(uint64_t word);
 
 /* The seed table of a word: bit l is entry l of the joined rows, and the bits from the conductor up are clear. Refusals 1, 2. */
