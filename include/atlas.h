@@ -3,11 +3,11 @@
    A gap word has 64 bits: bit i stands when i + 1 is a gap, and every number above 64 belongs to the set. A word is accepted when it
    has at most 32 gaps and its set is closed under addition.
 
-   Two conventions meet at the word 0, the semigroup without gaps, and differ nowhere else. Reported, by atlas_look and in the lines of the
-   listing program, are the numbers of other algebra packages: the conductor is the least number from which on all belong to the set, 0
-   for the word 0, and the largest gap, one less, is -1 there. Counted by, in seed tables and children, is the conductor of the seeds
-   paper: the largest gap plus 1, and 1 for the word 0, whose seed table has one entry and whose child is at 1. Below, "the conductor"
-   is the paper's wherever it is not called reported.
+   Two conventions meet at the word 0, the semigroup without gaps; for every other word they agree. What is reported, by atlas_look and in
+   the lines of the listing program, is what other algebra packages give: the conductor is the least number from which on all belong to
+   the set, 0 for the word 0, and the largest gap is one less, -1 there. Seed tables and children are counted by the conductor of the
+   seeds paper: the largest gap plus 1, and 1 for the word 0, whose seed table has one entry and whose child is at 1. Below, "the
+   conductor" is the paper's unless it is called reported.
 
    No call asks anything of its arguments, and every call returns. In each answer `refused` comes first: 0 for an answer, otherwise the
    number of the refusal, and then all values are 0, no list is written and a walk comes back as it was given. A list is a pointer and a
