@@ -62,8 +62,10 @@ module _ (w e : ℕ) (fits : w < 2 ^ 64) (high : conductor w ≤ e) where
 
     pub child-conductor : conductor (childWord w e) ≡ suc e
     child-conductor =
-        conductor-is (childWord w e) fits′ e (same-child e ∙ without-out e (setOf w))
-        (λ x h. same-child x ∙ in-without e (setOf w) (λ q. omega arith) (element-from-conductor w fits x (omega arith)))
+        conductor-is (childWord w e) fits′ e record {
+          gap = same-child e ∙ without-out e (setOf w);
+          largest = λ x h. same-child x ∙ in-without e (setOf w) (λ q. omega arith) (element-from-conductor w fits x (omega arith));
+        }
 
   module _ (c : closed w ≡ true) (g : generator w e ≡ true) where
     child-semigroup : NumericalSemigroup (without e (setOf w))

@@ -390,6 +390,12 @@ unfolding lastOr
 last-mem d [] = List·Memᴰ·head refl
 last-mem d (x ∷ l) = List·Memᴰ·tail (last-mem x l)
 
+-- where the last is above d, there is one
+pub last-some : (d : ℕ) (l : List ℕ) → d < lastOr d l → none l ≡ false
+unfolding none lastOr
+last-some d [] h = absurd (omega arith)
+last-some d (x ∷ l) h = refl
+
 -- in order, none is above the last
 pub le-last : {x : ℕ} (d : ℕ) (l : List ℕ) → Ordered _<_ (d ∷ l) → List·Memᴰ x (d ∷ l) → x ≤ lastOr d l
 unfolding lastOr Ordered

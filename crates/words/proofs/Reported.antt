@@ -2,35 +2,37 @@
 -- that those of a word are those of its set. Assumes nothing.
 use Prim.Native.Nat.{ℕ, zero, suc, _^_, _≤_, _<_}
 use mathlib.Core.Path.{_≡_, refl, sym, ap, subst, _∙_}
-use mathlib.Core.Logic.{_≢_, ⊎-elim}
+use mathlib.Core.Logic.{_≢_, _↔_, ⊎-elim}
 use mathlib.Core.Bool.{Bool, true, false, cond}
-use mathlib.Core.List.{List, [], _∷_}
 use native.Mathlib.Omega.{arith}
 use native.Mathlib.Nat.{le-antisymm, lt-of-not-le, eq-or-lt-of-le}
 use native.Mathlib.Decide.{ℕ-discrete}
-use lib.IntN.{ℤ, pos, negsuc, _-ℤ_}
-use borrow.Author.Tests.{le-ltb}
-use Rattle.words.specs.Lists.{none, run, keep, keepIf, lastOr}
+use lib.IntN.{ℤ, pos, negsuc, _-ℤ_, -ℤ-one}
+use Rattle.words.specs.Lists.{none, run, keep, keepIf}
 use Rattle.words.specs.Sets.{Set, LargestGapOf, SignedLargestGapOf, ReportedConductorOf}
 use Rattle.words.specs.Words.{bit, setOf, gaps, largestGap, conductor, reportedConductor, signedLargestGap}
 use Rattle.words.proofs.Booleans.{not-both, is-false}
+use Rattle.words.proofs.Lists.{last-some}
 use Rattle.words.proofs.Words.{set-zero}
-use Rattle.words.proofs.Elements.{largest-gap, largest-gap-pos, element-from-conductor, conductor-least}
+use Rattle.words.proofs.Elements.{largest-gap-pos, largest-gap-of}
 
 -- ---- of any set
 
--- a positive number less 1, as signed numbers
-less-one : (n : ℕ) → pos (suc n) -ℤ pos 1 ≡ pos n
-less-one n = rw (le-ltb (suc n) 1 (omega arith)) (ap pos (omega arith))
-
 module _ (S : Set) where
-  -- the largest gap is the reported conductor less 1
-  pub largest-gap-before : (c : ℕ) → ReportedConductorOf S c → SignedLargestGapOf S (pos c -ℤ pos 1)
-  largest-gap-before zero h = λ x. h .on x (omega arith)
-  largest-gap-before (suc f) h =
-      let missed : S f ≡ false = is-false (S f) (λ e.
-      omega (arith, h .least f (λ x l. ⊎-elim (λ (same : f ≡ x). ap S (sym same) ∙ e) (λ (k : f < x). h .on x k) (eq-or-lt-of-le l)))) in
-      subst (SignedLargestGapOf S) (sym (less-one f)) (record { gap = missed; largest = h .on })
+  -- c is the reported conductor just where c less 1 is the largest gap
+  pub largest-gap-before : (c : ℕ) → ReportedConductorOf S c ↔ SignedLargestGapOf S (pos c -ℤ pos 1)
+  largest-gap-before zero = (λ h x. h .on x (omega arith), λ all. record { on = λ x l. all x; least = λ n h. omega arith })
+  largest-gap-before (suc f) = subst (λ (z : ℤ). ReportedConductorOf S (suc f) ↔ SignedLargestGapOf S z) (sym (-ℤ-one (pos (suc f)))) (there, back)
+    where
+      -- if f belonged to S, all from f on would
+      there : ReportedConductorOf S (suc f) → LargestGapOf S f
+      there h =
+          let on-from : S f ≡ true → (x : ℕ) → f ≤ x → S x ≡ true =
+          λ e x l. ⊎-elim (λ (same : f ≡ x). ap S (sym same) ∙ e) (h .on x) (eq-or-lt-of-le l) in
+          record { gap = is-false (S f) (λ e. omega (arith, h .least f (on-from e))); largest = h .on }
+
+      back : LargestGapOf S f → ReportedConductorOf S (suc f)
+      back g = record { on = g .largest; least = λ n h. lt-of-not-le (λ l. not-both (h f l) (g .gap)) }
 
   -- a set has one reported conductor
   pub reported-unique : (c d : ℕ) → ReportedConductorOf S c → ReportedConductorOf S d → c ≡ d
@@ -55,7 +57,7 @@ signed-largest-gap-is w = by-gaps (none (gaps w))
   where
     by-gaps : (b : Bool) → cond b (negsuc 0) (pos (largestGap w)) ≡ pos (cond b 0 (suc (largestGap w))) -ℤ pos 1
     by-gaps true = refl
-    by-gaps false = sym (less-one (largestGap w))
+    by-gaps false = sym (-ℤ-one (pos (suc (largestGap w))))
 
 -- the reported conductor of every word is at most its conductor
 pub reported-le : (w : ℕ) → reportedConductor w ≤ conductor w
@@ -71,17 +73,11 @@ pub no-gap-reported : {w : ℕ} → w ≡ 0 → (reportedConductor w ≡ 0) × (
 unfolding run keep keepIf none bit setOf gaps reportedConductor signedLargestGap
 no-gap-reported e = (ap reportedConductor e, ap signedLargestGap e)
 
--- a list whose last number is positive is not empty
-last-some : (l : List ℕ) → 0 < lastOr 0 l → none l ≡ false
-unfolding none lastOr
-last-some [] h = absurd (omega arith)
-last-some (x ∷ l) h = refl
-
 module _ (w : ℕ) (fits : w < 2 ^ 64) where
   -- all other words have one
   some-gap : w ≢ 0 → none (gaps w) ≡ false
   unfolding largestGap
-  some-gap nonzero = last-some (gaps w) (largest-gap-pos w fits nonzero)
+  some-gap nonzero = last-some 0 (gaps w) (largest-gap-pos w fits nonzero)
 
   -- for every word but 0 both conductors agree
   pub conductors-agree : w ≢ 0 → reportedConductor w ≡ conductor w
@@ -93,26 +89,14 @@ module _ (w : ℕ) (fits : w < 2 ^ 64) where
   unfolding signedLargestGap
   largest-gaps-agree nonzero = rw (some-gap nonzero)
 
-  -- the reported conductor is that of the set
-  pub reported-conductor-of : ReportedConductorOf (setOf w) (reportedConductor w)
-  reported-conductor-of = elim (ℕ-discrete w 0) [ yes e ↦ from-zero e | no nonzero ↦ from-nonzero nonzero ]
-    where
-      from-zero : w ≡ 0 → ReportedConductorOf (setOf w) (reportedConductor w)
-      from-zero e =
-          let none = no-gap-reported e .0 in
-          record { on = λ x l. ap (λ (v : ℕ). setOf v x) e ∙ set-zero x; least = λ n h. omega arith }
-
-      -- a number from which on all belong to the set is above the largest gap
-      from-nonzero : w ≢ 0 → ReportedConductorOf (setOf w) (reportedConductor w)
-      from-nonzero nonzero =
-          let same = conductors-agree nonzero in
-          let missed = largest-gap w (largest-gap-pos w fits nonzero) in
-          record {
-            on = λ x l. element-from-conductor w fits x (omega arith);
-            least = λ n h. omega (arith, conductor-least w fits n (lt-of-not-le (λ l. not-both (h (largestGap w) (omega arith)) missed)) h);
-          }
-
-  -- and so is the largest gap: every number above it belongs to the set and it does not, or there is none and it is -1
+  -- the largest gap is that of the set: every number above it belongs to the set and it does not, or there is none and it is -1
   pub signed-largest-gap-of : SignedLargestGapOf (setOf w) (signedLargestGap w)
-  signed-largest-gap-of =
-      subst (SignedLargestGapOf (setOf w)) (sym (signed-largest-gap-is w)) (largest-gap-before (setOf w) (reportedConductor w) reported-conductor-of)
+  signed-largest-gap-of = elim (ℕ-discrete w 0) [
+    | yes e ↦ subst (SignedLargestGapOf (setOf w)) (sym (no-gap-reported e .1)) (λ x. ap (λ (v : ℕ). setOf v x) e ∙ set-zero x)
+    | no nonzero ↦ subst (SignedLargestGapOf (setOf w)) (sym (largest-gaps-agree nonzero)) (largest-gap-of w fits nonzero)
+  ]
+
+  -- and so is the reported conductor
+  pub reported-conductor-of : ReportedConductorOf (setOf w) (reportedConductor w)
+  reported-conductor-of =
+      largest-gap-before (setOf w) (reportedConductor w) .1 (subst (SignedLargestGapOf (setOf w)) (signed-largest-gap-is w) signed-largest-gap-of)
