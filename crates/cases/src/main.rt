@@ -157,7 +157,7 @@ fn any_word() {
 
 // What is reported of the word without gaps, of the words after it, and of words that a look refuses. The conductor by which tables and
 // children are counted is that of source 000: the word 0 has one entry and its one child at 1.
-fn reported() {
+fn reported_numbers() {
     show_look(0);
     show_look(1);
     show_look(4294967295);
@@ -258,7 +258,7 @@ fn main() {
     example_1_5();
     example_of_001();
     any_word();
-    reported();
+    reported_numbers();
     ends_of_range();
     windows();
 }
