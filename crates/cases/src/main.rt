@@ -156,7 +156,7 @@ fn any_word() {
 }
 
 // What is reported of the word without gaps, of the words after it, and of words that a look refuses. The conductor by which tables and
-// children are counted is that of source 000: the word 0 has one entry and its one child at 1.
+// children are counted is that of source 000: the table of the word 0 has one entry, and its one child is at 1.
 fn reported_numbers() {
     show_look(0);
     show_look(1);

@@ -20,9 +20,9 @@ use Rattle.words.proofs.Elements.{largest-gap-pos, largest-gap-of}
 
 module _ (S : Set) where
   -- c is the reported conductor just where c less 1 is the largest gap
-  pub largest-gap-before : (c : ℕ) → ReportedConductorOf S c ↔ SignedLargestGapOf S (pos c -ℤ pos 1)
-  largest-gap-before zero = (λ h x. h .on x (omega arith), λ all. record { on = λ x l. all x; least = λ n h. omega arith })
-  largest-gap-before (suc f) = subst (λ (z : ℤ). ReportedConductorOf S (suc f) ↔ SignedLargestGapOf S z) (sym (-ℤ-one (pos (suc f)))) (there, back)
+  pub reported-iff : (c : ℕ) → ReportedConductorOf S c ↔ SignedLargestGapOf S (pos c -ℤ pos 1)
+  reported-iff zero = (λ h x. h .on x (omega arith), λ all. record { on = λ x l. all x; least = λ n h. omega arith })
+  reported-iff (suc f) = subst (λ (z : ℤ). ReportedConductorOf S (suc f) ↔ SignedLargestGapOf S z) (sym (-ℤ-one (pos (suc f)))) (there, back)
     where
       -- if f belonged to S, all from f on would
       there : ReportedConductorOf S (suc f) → LargestGapOf S f
@@ -68,7 +68,7 @@ reported-le w = by-gaps (none (gaps w))
     by-gaps true = omega arith
     by-gaps false = omega arith
 
--- the word 0 has no gap
+-- the word 0 has no gap: its reported conductor is 0 and its largest gap -1
 pub no-gap-reported : {w : ℕ} → w ≡ 0 → (reportedConductor w ≡ 0) × (signedLargestGap w ≡ negsuc 0)
 unfolding run keep keepIf none bit setOf gaps reportedConductor signedLargestGap
 no-gap-reported e = (ap reportedConductor e, ap signedLargestGap e)
@@ -99,4 +99,4 @@ module _ (w : ℕ) (fits : w < 2 ^ 64) where
   -- and so is the reported conductor
   pub reported-conductor-of : ReportedConductorOf (setOf w) (reportedConductor w)
   reported-conductor-of =
-      largest-gap-before (setOf w) (reportedConductor w) .1 (subst (SignedLargestGapOf (setOf w)) (signed-largest-gap-is w) signed-largest-gap-of)
+      reported-iff (setOf w) (reportedConductor w) .1 (subst (SignedLargestGapOf (setOf w)) (signed-largest-gap-is w) signed-largest-gap-of)

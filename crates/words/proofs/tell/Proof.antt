@@ -25,12 +25,12 @@ conductor-and-multiplicity-requires c κs = search needs
 returns : tie.Need-returns
 unfolding reportOf
 returns c =
-    let none = no-gap-reported (c .if1 .taken) in
+    let told = no-gap-reported (c .if1 .taken) in
     λ i. record {
       genus = c .before .before .genus-of .ensures i;
       multiplicity = c .before .conductor-and-multiplicity .ensures .1 i;
-      conductor = sym (none .0) i;
-      «largest_gap» = sym (none .1) i;
+      conductor = sym (told .0) i;
+      «largest_gap» = sym (told .1) i;
     }
 
 -- the conductor is at least 1
