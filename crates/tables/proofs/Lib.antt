@@ -5,6 +5,7 @@ pub mod ChildTable
 pub mod ChildRows
 pub mod Nodes
 pub mod Levels
+pub mod Branches
 pub mod Way
 pub mod Answers
 pub mod Cases

@@ -2,4 +2,5 @@ pub mod Seeds
 pub mod Child
 pub mod Nodes
 pub mod Levels
+pub mod Branches
 pub mod Answers

@@ -1,8 +1,9 @@
 // Seed tables: a semigroup under way, which carries its word, table and conductor and gives its own child, and the calls on words.
+ghost use Prim.Native.Nat.{_-_, _^_};
 ghost use mathlib.Core.Path.{_≡_};
 ghost use Rattle.words.specs.Answers.{Accepted, answered};
 ghost use Rattle.tables.specs.Child.{raked};
-ghost use Rattle.tables.specs.Nodes.{nodeOf, childNode, firstRow, nextOffset};
+ghost use Rattle.tables.specs.Nodes.{nodeOf, childNode, firstRow, lowestOffset, nextOffset};
 ghost use Rattle.tables.specs.Levels.{NodeWithLevels};
 ghost use Rattle.tables.specs.Answers.{noded, nodeAnswer, tableOf, childOf};
 use words::Element;
@@ -101,6 +102,29 @@ impl Node {
             return Offset(0);
         }
         Offset(u64::trailing_zeros(later) as u64)
+    }
+}
+
+// The lowest of some offsets, which are the bits of a number, and the others.
+pub struct Lowest {
+    pub at: Offset,
+    pub rest: u64,
+}
+
+// Takes the lowest of some offsets off: 64 and none where there are none.
+pub fn lowest_of(bits: u64) -> Lowest
+    ensures { λ r. ⌜ (r .at .0 ≡ lowestOffset bits) × (r .rest ≡ bits - 2 ^ lowestOffset bits) ⌝ }
+{
+    if bits == 0 {
+        return Lowest {
+            at: Offset(64),
+            rest: 0,
+        };
+    }
+    let at = u64::trailing_zeros(bits) as u64;
+    Lowest {
+        at: Offset(at),
+        rest: bits - (1 << at),
     }
 }
 

@@ -20,7 +20,7 @@ use Rattle.windows.specs.Windows.{within}
 use Rattle.windows.proofs.Windows.{window-mem, window-on-from}
 use Rattle.walk.specs.declared.Walk.{Walk}
 use Rattle.walk.specs.Walks.{rest, standing, inOrder, Ending, unmoved, batchOf}
-use Rattle.walk.specs.Branches.{fromMultiplicity}
+use Rattle.walk.specs.Cut.{fromMultiplicity}
 use Rattle.walk.specs.Lending.{Lent, unwritten, putAll}
 use Rattle.walk.proofs.Walks.{in-order-mem, batch-moves}
 use Rattle.walk.proofs.Lending.{put-all}

@@ -19,9 +19,10 @@ use Rattle.words.proofs.Tree.{multiplicity-stays}
 use Rattle.tables.specs.Nodes.{childNode, firstRow}
 use Rattle.tables.specs.declared.Node.{Node}
 use Rattle.tables.specs.Levels.{Levels}
-use Rattle.walk.specs.Branches.{branches, Offsets, fromMultiplicity}
-use Rattle.walk.proofs.Branches.{leaf-below}
-use Rattle.walk.proofs.Nodes.{levels-below, Below}
+use Rattle.tables.specs.Branches.{branches, Offsets}
+use Rattle.tables.proofs.Branches.{leaf-below, levels-below}
+use Rattle.walk.specs.Cut.{fromMultiplicity}
+use Rattle.walk.proofs.Resuming.{Below}
 
 -- the branches of w at offsets above d, which are above 0: the conductor, and with it the multiplicity, is below the new gap
 module _ (r w row d : ℕ) (at : Levels (suc r) w) (offsets : Offsets w (above row d)) where

@@ -1,6 +1,6 @@
 pub mod Walks
-pub mod Branches
-pub mod Nodes
+pub mod BranchCounts
+pub mod Resuming
 pub mod Cut
 pub mod Lending
 pub mod Measure

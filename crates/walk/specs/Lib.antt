@@ -1,4 +1,4 @@
 pub mod Answers
 pub mod Walks
-pub mod Branches
+pub mod Cut
 pub mod Lending

@@ -9,9 +9,10 @@ ghost use Rattle.words.specs.Positions.{above};
 ghost use Rattle.words.specs.Answers.{answered};
 ghost use Rattle.words.specs.Tree.{leaves};
 ghost use Rattle.tables.specs.Levels.{NodeWithLevels};
+ghost use Rattle.tables.specs.Branches.{branches, Offsets};
 ghost use Rattle.walk.specs.Answers.{begun};
 ghost use Rattle.walk.specs.Walks.{inOrder, ended, freshOf, freshInOf, startOf, startInOf, batchOf, countOf};
-ghost use Rattle.walk.specs.Branches.{branches, Offsets, TakenOff, fromMultiplicity};
+ghost use Rattle.walk.specs.Cut.{fromMultiplicity};
 ghost use Rattle.walk.specs.Lending.{putOne, putAll};
 use tables::Node;
 use tables::NodeAnswer;
@@ -55,24 +56,6 @@ pub struct Moved {
     pub answer: BatchAnswer,
 }
 
-// The lowest of some offsets, which are the bits of a number, and the others.
-struct Lowest {
-    at: Offset,
-    rest: u64,
-}
-
-// Takes the lowest of some offsets off.
-fn lowest_of(bits: u64) -> Lowest
-    requires { ⌜ 0 < bits ⌝ }
-    ensures { λ r. ⌜ TakenOff bits (r .at .0) (r .rest) ⌝ }
-{
-    let at = u64::trailing_zeros(bits) as u64;
-    Lowest {
-        at: Offset(at),
-        rest: bits - (1 << at),
-    }
-}
-
 // Those of a row's offsets that come after one.
 fn later(row: u64, offset: Offset) -> u64
     requires { ⌜ offset .0 < 63 ⌝ }
@@ -105,7 +88,7 @@ fn sum_from(n: Node, rest: u64, left: u64) -> u64
     if rest == 0 {
         return 0;
     }
-    let d = lowest_of(rest);
+    let d = tables::lowest_of(rest);
     let at = d.at;
     count_node(n.child(at), left) + sum_from(n, d.rest, left)
 }
@@ -151,7 +134,7 @@ fn put_children(n: Node, rest: u64, s: Emitted, out: &mut [u64]) -> Emitted
     let mut bits = rest;
     let mut t = s;
     while bits != 0 {
-        let d = lowest_of(bits);
+        let d = tables::lowest_of(bits);
         let at = d.at;
         let e = Element::at_offset(c, at);
         t = put(w + (1 << (e.0 - 1)), t, out);
@@ -187,7 +170,7 @@ fn emit_from(n: Node, rest: u64, left: u64, s: Emitted, out: &mut [u64]) -> Emit
     if s.more {
         return s;
     }
-    let d = lowest_of(rest);
+    let d = tables::lowest_of(rest);
     let at = d.at;
     let t = emit(n.child(at), left, s, out);
     emit_from(n, d.rest, left, t, out)

@@ -9,9 +9,9 @@ use lib.ListN.{length, length-append}
 use borrow.Fn.Kinds.{In}
 use borrow.Fn.PlainCycle.{Measures, is, falls, and}
 use Rattle.words.specs.Tree.{leaves}
-use Rattle.walk.specs.Branches.{branches}
-use Rattle.walk.proofs.Branches.{branches-none, length-children, branches-fit}
-use Rattle.walk.proofs.Nodes.{levels-below, Row, row-branches, FirstChild, first-child}
+use Rattle.tables.specs.Branches.{branches}
+use Rattle.tables.proofs.Branches.{TakenOff, taken-off, branches-none, levels-below, Row, row-branches, FirstChild, first-child}
+use Rattle.walk.proofs.BranchCounts.{length-children, branches-fit}
 use Rattle.walk.proofs.Measure.{depth, depth-down, depth-on}
 use Rattle.walk.proofs.count_node.Reads as count-node
 use Rattle.walk.proofs.count_node.Kinds as count-node-kinds
@@ -21,7 +21,7 @@ use Rattle.walk.proofs.sum_from.Kinds as sum-from-kinds
 use Rattle.walk.proofs.+count_node+sum_from.Lts-sum_from as sum-from-lts
 use Rattle.tables.proofs.Node.child.Reads as child-reads
 use Rattle.tables.proofs.Node.first_row.Reads as first-row-reads
-use Rattle.walk.proofs.lowest_of.Reads as lowest-of-reads
+use Rattle.tables.proofs.lowest_of.Reads as lowest-of-reads
 use Rattle.walk.proofs.+count_node+sum_from.{statement}
 use Rattle.walk.proofs.+count_node+sum_from.Tie.{close}
 
@@ -68,6 +68,11 @@ module _ (t : ℕ) where
   count-node-returns-2 : count-node-lts.Need-returns-2 (count-node-claims t) (count-node-at t) count-node.Post
   count-node-returns-2 c = omega (arith, c .sum-from .ensures, ap length (row (c .before) .all))
 
+  -- the lowest offset, taken off the others
+  lowest : (c : sum-from-lts.After-lowest-of (sum-from-claims t) (sum-from-at t) sum-from.Post)
+      → TakenOff (c .before .before .before .args .rest) (c .lowest-of .result .at .0) (c .lowest-of .result .rest)
+  lowest c = taken-off _ (omega arith) (omega arith) (c .lowest-of .ensures)
+
   -- the child at the lowest offset, and the others
   first : (c : sum-from-lts.After-child (sum-from-claims t) (sum-from-at t) sum-from.Post) →
       let low = c .before .before in
@@ -76,7 +81,7 @@ module _ (t : ℕ) where
   first c =
       let low = c .before .before in
       let start = low .before .before .before in
-      first-child _ _ (start .pre .1 .0) (start .pre .1 .1) (low .lowest-of .ensures) (c .child .ensures)
+      first-child _ _ (start .pre .1 .0) (start .pre .1 .1) (lowest low) (c .child .ensures)
 
   -- the count over the row is that child's and the others', and it is less than 2 ^ 64
   sum : (c : sum-from-lts.After-child (sum-from-claims t) (sum-from-at t) sum-from.Post) →
@@ -108,7 +113,7 @@ module _ (t : ℕ) where
   sum-from-sum-from-requires c κs =
       let low = c .before .before .before in
       let start = low .before .before .before in
-      (omega (arith, depth-on (start .args .left) (suc-le-suc (low .lowest-of .ensures .fewer))), (start .pre .1 .0, first (c .before) .others))
+      (omega (arith, depth-on (start .args .left) (suc-le-suc (lowest low .fewer))), (start .pre .1 .0, first (c .before) .others))
 
   sum-from-add-result : sum-from-lts.Need-add-result (sum-from-claims t) (sum-from-at t) sum-from.Post
   sum-from-add-result c = omega (arith, sum (c .before .before))

@@ -9,8 +9,7 @@ use borrow.Fn.PlainCycle.{Measures, is, falls, and}
 use Rattle.words.specs.Tree.{leaves}
 use Rattle.tables.specs.Levels.{NodeWithLevels}
 use Rattle.walk.specs.Lending.{putAll}
-use Rattle.walk.proofs.Branches.{branches-none}
-use Rattle.walk.proofs.Nodes.{Row, row-branches, FirstChild, first-child}
+use Rattle.tables.proofs.Branches.{TakenOff, taken-off, branches-none, Row, row-branches, FirstChild, first-child}
 use Rattle.walk.proofs.Lending.{put-append, put-more}
 use Rattle.walk.proofs.Measure.{depth, depth-down, depth-on}
 use Rattle.walk.proofs.emit.Reads as emit
@@ -21,7 +20,7 @@ use Rattle.walk.proofs.emit_from.Kinds as emit-from-kinds
 use Rattle.walk.proofs.+emit+emit_from.Lts-emit_from as emit-from-lts
 use Rattle.tables.proofs.Node.child.Reads as child-reads
 use Rattle.tables.proofs.Node.first_row.Reads as first-row-reads
-use Rattle.walk.proofs.lowest_of.Reads as lowest-of-reads
+use Rattle.tables.proofs.lowest_of.Reads as lowest-of-reads
 use Rattle.walk.proofs.put.Reads as put-reads
 use Rattle.walk.proofs.put_children.Reads as put-children-reads
 use Rattle.walk.proofs.+emit+emit_from.{statement}
@@ -86,6 +85,11 @@ module _ (t : ℕ) where
   emit-from-returns-3 : emit-from-lts.Need-returns-3 (emit-from-claims t) (emit-from-at t) emit-from.Post
   emit-from-returns-3 c = sym (put-more _ _ (c .if3 .taken))
 
+  -- the lowest offset, taken off the others
+  lowest : (c : emit-from-lts.After-lowest-of (emit-from-claims t) (emit-from-at t) emit-from.Post)
+      → TakenOff (c .before .before .before .before .before .args .rest) (c .lowest-of .result .at .0) (c .lowest-of .result .rest)
+  lowest c = taken-off _ (omega arith) (omega arith) (c .lowest-of .ensures)
+
   -- the child at the lowest offset, and the others
   first : (c : emit-from-lts.After-child (emit-from-claims t) (emit-from-at t) emit-from.Post) →
       let low = c .before .before in
@@ -94,7 +98,7 @@ module _ (t : ℕ) where
   first c =
       let low = c .before .before in
       let start = low .before .before .before .before .before in
-      first-child _ _ (start .pre .1 .0) (start .pre .1 .1) (low .lowest-of .ensures) (c .child .ensures)
+      first-child _ _ (start .pre .1 .0) (start .pre .1 .1) (lowest low) (c .child .ensures)
 
   emit-from-emit-requires : emit-from-lts.Need-emit-requires (emit-from-claims t) (emit-from-at t) emit-from.Post
   emit-from-emit-requires c κs =
@@ -106,7 +110,7 @@ module _ (t : ℕ) where
       let at-child = c .before .before .before .before .before in
       let low = at-child .before .before in
       let start = low .before .before .before .before .before in
-      (omega (arith, depth-on (start .args .left) (suc-le-suc (low .lowest-of .ensures .fewer))), (start .pre .1 .0, first at-child .others))
+      (omega (arith, depth-on (start .args .left) (suc-le-suc (lowest low .fewer))), (start .pre .1 .0, first at-child .others))
 
   emit-from-returns-4 : emit-from-lts.Need-returns-4 (emit-from-claims t) (emit-from-at t) emit-from.Post
   emit-from-returns-4 c =

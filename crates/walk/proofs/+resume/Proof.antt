@@ -7,10 +7,9 @@ use borrow.Fn.PlainCycle.{Measures, is, falls, and}
 use Rattle.words.specs.Positions.{above}
 use Rattle.words.specs.Elements.{multiplicity}
 use Rattle.tables.specs.Nodes.{firstRow}
-use Rattle.walk.specs.Branches.{Offsets}
+use Rattle.tables.specs.Branches.{Offsets}
 use Rattle.walk.specs.Lending.{putAll}
-use Rattle.walk.proofs.Branches.{on-from-own}
-use Rattle.walk.proofs.Nodes.{Below, next-child}
+use Rattle.walk.proofs.Resuming.{on-from-own, Below, next-child}
 use Rattle.walk.proofs.Cut.{later-parts, later-cut, later-kept, kept-own}
 use Rattle.walk.proofs.Lending.{put-append, put-more}
 use Rattle.walk.proofs.resume.Reads as resume

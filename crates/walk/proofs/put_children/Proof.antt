@@ -1,5 +1,5 @@
 -- `walk::put_children` meets its contract. What is left to put makes, with what was put, all that there is to put. Assumes nothing.
-use Prim.Native.Nat.{ℕ, _+_, _*_, _-_, _%_, _^_}
+use Prim.Native.Nat.{ℕ, _+_, _*_, _-_, _%_, _^_, _<_}
 use mathlib.Core.Path.{_≡_, refl, sym, ap, _∙_}
 use mathlib.Core.List.{List}
 use native.Mathlib.Omega.{arith}
@@ -10,24 +10,27 @@ use Rattle.words.proofs.Bits.{one-shl}
 use Rattle.words.proofs.Elements.{conductor-pos}
 use Rattle.words.specs.Children.{Child}
 use Rattle.words.specs.Tree.{leaves}
-use Rattle.walk.specs.Branches.{branches, Offsets, TakenOff}
+use Rattle.tables.specs.Branches.{branches, Offsets}
 use Rattle.walk.specs.Lending.{Lent, putOne, putAll}
-use Rattle.walk.proofs.Branches.{branches-none, branches-first, offset-first, offsets-rest, child-of}
-use Rattle.walk.proofs.Nodes.{levels-below}
+use Rattle.tables.proofs.Branches.{TakenOff, taken-off, branches-none, branches-first, offset-first, offsets-rest, child-of, levels-below}
 use Rattle.tables.proofs.Levels.{node-conductor}
 use Rattle.walk.proofs.put_children.Statement.{statement}
 use Rattle.walk.proofs.put_children.Tie as tie
 use Rattle.walk.proofs.put_children.Reads as reads
 use Rattle.walk.proofs.put_children.Lts as lts
-use Rattle.walk.proofs.lowest_of.Reads as lowest-of-reads
+use Rattle.tables.proofs.lowest_of.Reads as lowest-of-reads
 use Rattle.walk.proofs.put.Reads as put-reads
 
 abbrev Inv-loop : tie.InvT-loop
 Inv-loop rest out₀ w c bits₀ t₀ out bits t =
-    Offsets w bits × (length out ≡ length out₀) × (putAll (branches 0 w bits) (out, t) ≡ putAll (branches 0 w bits₀) (out₀, t₀))
+    (bits < 2 ^ 64) × Offsets w bits × (length out ≡ length out₀) × (putAll (branches 0 w bits) (out, t) ≡ putAll (branches 0 w bits₀) (out₀, t₀))
 
 abbrev μ-loop : tie.MeasureT-loop
 μ-loop rest out₀ w c bits₀ t₀ out bits t = bits
+
+-- the lowest offset, taken off the others
+lowest : (c : tie.After-lowest-of Inv-loop μ-loop) → TakenOff (c .before .before .loop .bits) (c .lowest-of .result .at .0) (c .lowest-of .result .rest)
+lowest c = taken-off _ (omega arith) (c .before .before .loop .inv .0) (c .lowest-of .ensures)
 
 -- the child at the lowest offset
 child : (c : tie.After-lowest-of Inv-loop μ-loop) →
@@ -35,7 +38,7 @@ child : (c : tie.After-lowest-of Inv-loop μ-loop) →
 child c =
     let at-loop = c .before .before in
     let start = at-loop .before .before in
-    child-of 0 _ (levels-below 0 _ (start .pre .0)) (offset-first 0 _ (c .lowest-of .ensures) (at-loop .loop .inv .0))
+    child-of 0 _ (levels-below 0 _ (start .pre .0)) (offset-first 0 _ (lowest c) (at-loop .loop .inv .1))
 
 -- the element at that offset
 element : (c : tie.After-at-offset Inv-loop μ-loop) →
@@ -62,7 +65,7 @@ unfolding leaves putAll
 put-first w low t = ap (λ (l : List ℕ). putAll l t) (branches-first 0 w low)
 
 loop-holds : tie.Need-loop-holds Inv-loop μ-loop
-loop-holds c = (c .before .pre .1, refl, refl)
+loop-holds c = (c .before .fits .rest .fits, c .before .pre .1, refl, refl)
 
 lowest-of-requires : tie.Need-lowest-of-requires Inv-loop μ-loop
 lowest-of-requires c κs = omega arith
@@ -82,24 +85,25 @@ put-requires : tie.Need-put-requires Inv-loop μ-loop
 put-requires c κs = search needs
 
 loop-less : tie.Need-loop-less Inv-loop μ-loop
-loop-less c = omega arith
+loop-less c = lowest (c .before .before .before .before .before .before .before) .fewer
 
 loop-again : tie.Need-loop-again Inv-loop μ-loop
 loop-again c =
     let there = c .before .before .before .before .before in
     let low = there .before .before in
     let at = low .before .before .loop in (
-      offsets-rest 0 _ (low .lowest-of .ensures) (at .inv .0),
-      c .before .before .put .kept .1 .1 .0 ∙ at .inv .1,
-      ap (putAll _) (c .before .before .put .ensures) ∙ rw (word there) (sym (put-first _ (low .lowest-of .ensures) _)) ∙ at .inv .2,
+      omega (arith, lowest low .fewer),
+      offsets-rest 0 _ (lowest low) (at .inv .1),
+      c .before .before .put .kept .1 .1 .0 ∙ at .inv .2,
+      ap (putAll _) (c .before .before .put .ensures) ∙ rw (word there) (sym (put-first _ (lowest low) _)) ∙ at .inv .3,
     )
 
 same-length : tie.Need-same-length Inv-loop μ-loop
-same-length c = c .before .loop .inv .1
+same-length c = c .before .loop .inv .2
 
 returns : tie.Need-returns Inv-loop μ-loop
 unfolding putAll
-returns c = rw (c .loop-test .left, branches-none) at (c .before .loop .inv .2)
+returns c = rw (c .loop-test .left, branches-none) at (c .before .loop .inv .3)
 
 pub put-children-spec : {M : Type 1} → statement M
 put-children-spec =

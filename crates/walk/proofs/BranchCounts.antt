@@ -1,0 +1,54 @@
+-- How many leaves there are below some children of a word: a number of 64 bits. Assumes nothing.
+use Prim.Native.Nat.{ℕ, suc, _+_, _-_, _^_, _≤_, _<_}
+use mathlib.Core.Path.{_≡_, refl, _∙_, subst}
+use mathlib.Core.List.{List, [], _∷_, List·Memᴰ}
+use native.Mathlib.Omega.{arith}
+use lib.Count.{ones}
+use lib.ListN.{length}
+use lib.Pow.{pow-mono}
+use Rattle.words.specs.Lists.{sumOver}
+use Rattle.words.specs.Words.{genus, conductor, childWord}
+use Rattle.words.specs.Positions.{positions}
+use Rattle.words.specs.GenusList.{descendantCount}
+use Rattle.words.specs.Tree.{leaves}
+use Rattle.words.proofs.Lists.{length-joined, sum-of-powers}
+use Rattle.words.proofs.StandingBits.{positions-ordered, positions-ones}
+use Rattle.words.proofs.Elements.{conductor-pos}
+use Rattle.words.proofs.Tree.{count-bound}
+use Rattle.words.proofs.Leaves.{descendants-leaves}
+use Rattle.tables.specs.Levels.{Levels}
+use Rattle.tables.specs.Branches.{branches, Offsets}
+use Rattle.tables.proofs.Branches.{child-of, child-levels}
+
+-- the children themselves: as many as bits stand
+pub length-children : (w rest : ℕ) → rest < 2 ^ 64 → length (branches 0 w rest) ≡ ones rest
+unfolding branches leaves sumOver
+length-children w rest fits = length-joined _ (positions rest) ∙ each (positions rest) ∙ positions-ones rest fits
+  where
+    each : (l : List ℕ) → sumOver (λ d. length (childWord w (conductor w + d) ∷ [])) l ≡ length l
+    each [] = refl
+    each (d ∷ l) = omega (arith, each l)
+
+pub leaves-bound : (r w : ℕ) → Levels r w → length (leaves r w) ≤ 2 ^ (64 - conductor w)
+unfolding descendantCount
+leaves-bound r w at =
+    subst (λ (l : List ℕ). length l ≤ 2 ^ (64 - conductor w)) (descendants-leaves r w (at .fits) (at .closed) (at .few))
+    (count-bound (genus w + r) w (at .fits) (at .closed) (omega arith) (at .few))
+
+-- as no two offsets are the same, no more than below the conductor
+pub branches-fit : (r w rest : ℕ) → Levels (suc r) w → Offsets w rest → length (branches r w rest) < 2 ^ 64
+unfolding branches
+branches-fit r w rest at o =
+    let bound = sum-of-powers (λ d. length (leaves r (childWord w (conductor w + d)))) (64 - conductor w) 0 (positions rest) (positions-ordered rest) each in
+    let room : 2 ^ (64 - conductor w - 0) ≤ 2 ^ 63 = pow-mono {j = 63} (omega (arith, conductor-pos w)) in
+    omega (arith, length-joined (λ d. leaves r (childWord w (conductor w + d))) (positions rest))
+  where
+    each : (d : ℕ) → List·Memᴰ d (positions rest)
+        → (0 ≤ d) × (d < 64 - conductor w) × (length (leaves r (childWord w (conductor w + d))) ≤ 2 ^ (64 - conductor w - suc d))
+    each d m =
+        let v = child-of r w at (o d m) in
+        let next : 64 - conductor (childWord w (conductor w + d)) ≡ 64 - conductor w - suc d = omega (arith, v .new-conductor) in (
+          omega arith,
+          omega (arith, v .low),
+          subst (λ (k : ℕ). length (leaves r (childWord w (conductor w + d))) ≤ 2 ^ k) next (leaves-bound r _ (child-levels r w at (o d m))),
+        )
