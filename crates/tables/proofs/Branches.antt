@@ -127,6 +127,10 @@ module _ (r : ℕ) (n : Node) (at : NodeWithLevels (r + 1) n) where
     unfolding nodeOf
     child-word = ap (λ (k : Node). k .word) child-node
 
+    pub child-node-conductor : childNode n d .conductor ≡ suc (conductor w + d)
+    unfolding nodeOf
+    child-node-conductor = ap (λ (k : Node). k .conductor) child-node ∙ child-of r w levels-below m .new-conductor
+
     pub child-with-levels : NodeWithLevels r (childNode n d)
     child-with-levels = record {
       node = child-node ∙ ap nodeOf (sym child-word);

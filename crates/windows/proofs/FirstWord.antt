@@ -17,11 +17,12 @@ use Rattle.words.specs.Answers.{refused, given}
 use Rattle.words.proofs.Booleans.{not-both, by-value}
 use Rattle.words.proofs.Lists.{keep-in, keep-out, Rising, rising-cons, rising-tail, rising-from}
 use Rattle.words.proofs.Kept.{ordered-first}
-use Rattle.words.proofs.Words.{gaps-list, gaps-of-word}
+use Rattle.words.proofs.Words.{gaps-list, gaps-mem, gaps-of-word}
+use Rattle.words.proofs.Closure.{gap-no-multiple}
 use Rattle.words.proofs.Elements.{multiplicity-le-genus}
 use Rattle.windows.specs.Windows.{windowList, leastMultiplicity, notDivided}
 use Rattle.windows.specs.Answers.{firstIn, firstOf}
-use Rattle.windows.proofs.Multiplicities.{earlier-multiplicity, gap-no-multiple}
+use Rattle.windows.proofs.Multiplicities.{earlier-multiplicity}
 use Rattle.windows.proofs.Windows.{window-mem, mem-window, window-ordered, window-none}
 use Rattle.windows.proofs.NotDivided.{undivided, undividedTo, divided-list, divided-fits, divided-genus, divided-multiplicity, enough-for}
 
@@ -57,7 +58,7 @@ window-first g lo hi m h e low two =
     (λ v i b.
     let (o, from, to) = window-mem g lo hi i in
     let most : multiplicity v ≡ m = omega (arith, multiplicity-le-genus v (o .fits), o .gapped, earlier-multiplicity v w (o .fits) (divided-fits g m k enough) b) in
-    first-kept (undivided m) 1 64 (gaps v) (gaps-list v) (λ x j. ap not (ne-eqb (x % m) 0 (λ z. gap-no-multiple g v o x j (ap (λ (n : ℕ). x % n) most ∙ z))))
+    first-kept (undivided m) 1 64 (gaps v) (gaps-list v) (λ x j. ap not (ne-eqb (x % m) 0 (λ z. gap-no-multiple v (o .fits) (o .closed) x (gaps-mem v j) (ap (λ (n : ℕ). x % n) most ∙ z))))
     (subst (Before (gaps v)) (gaps-of-word (notDivided g m) (divided-list g m k enough) ∙ ap (λ (n : ℕ). take n (undividedTo m 64)) (sym (o .gapped))) b))
 
 -- ---- what the call answers

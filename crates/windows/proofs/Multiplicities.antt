@@ -1,22 +1,21 @@
--- The multiplicities of the words of a genus: they do not rise along list order, no gap is a multiple of one, and only genus 0 has 1.
+-- The multiplicities of the words of a genus: they do not rise along list order, and only genus 0 has 1.
 -- Assumes nothing.
-use Prim.Native.Nat.{ℕ, zero, suc, _*_, _/_, _%_, _^_, _≤_, _<_}
+use Prim.Native.Nat.{ℕ, zero, suc, _%_, _^_, _≤_, _<_}
 use mathlib.Core.Path.{_≡_, refl, sym, _∙_, ap}
 use mathlib.Core.Logic.{inl, inr, ⊎-elim}
 use mathlib.Core.List.{List, [], _∷_, List·Memᴰ, List·Memᴰ·head, List·Memᴰ·tail, List·Memᴰ·cases-cons}
 use native.Mathlib.Omega.{arith}
-use native.Mathlib.Nat.{mod-one, div-add-mod, lt-of-not-le, le-of-suc-le-suc}
+use native.Mathlib.Nat.{mod-one, lt-of-not-le, le-of-suc-le-suc}
 use lib.ListN.{length}
 use Rattle.words.specs.Lists.{Ordered}
-use Rattle.words.specs.Words.{setOf, gaps, genus}
+use Rattle.words.specs.Words.{gaps, genus}
 use Rattle.words.specs.Elements.{multiplicity}
 use Rattle.words.specs.GenusList.{Before, Earlier}
-use Rattle.words.proofs.Booleans.{not-both, is-false}
+use Rattle.words.proofs.Booleans.{not-both}
 use Rattle.words.proofs.Lists.{nothing}
-use Rattle.words.proofs.Sets.{multiples-in}
 use Rattle.words.proofs.Words.{gaps-list, gaps-mem, mem-gaps, gap-pos}
-use Rattle.words.proofs.Closure.{closed-iff}
-use Rattle.words.proofs.Elements.{multiplicity-in, multiplicity-pos, multiplicity-least}
+use Rattle.words.proofs.Closure.{gap-no-multiple}
+use Rattle.words.proofs.Elements.{multiplicity-in, multiplicity-pos, gap-below-multiplicity}
 use Rattle.words.proofs.GenusList.{WordOfGenus}
 use Rattle.windows.specs.Windows.{leastMultiplicity}
 
@@ -40,35 +39,22 @@ not-before m (x ∷ k) (y ∷ l) o p i lacks below (inr (e, b)) =
     (λ z j h. ⊎-elim (λ q. absurd (omega (arith, o .0 z j))) (λ n. n) (List·Memᴰ·cases-cons (below z (List·Memᴰ·tail j) h)))
     b
 
--- the positive numbers below the multiplicity are gaps
-below-multiplicity : (w x : ℕ) → w < 2 ^ 64 → 0 < x → x < multiplicity w → List·Memᴰ x (gaps w)
-below-multiplicity w x fits positive h = mem-gaps w x fits (is-false (setOf w x) (λ e. omega (arith, multiplicity-least w fits x positive e)))
-
 -- along list order the multiplicity does not rise
 pub earlier-multiplicity : (v w : ℕ) → v < 2 ^ 64 → w < 2 ^ 64 → Earlier v w → multiplicity w ≤ multiplicity v
 earlier-multiplicity v w fits other b =
     le-of-suc-le-suc (lt-of-not-le λ h.
     not-before (multiplicity v) (gaps v) (gaps w) (gaps-list v .ordered) (gaps-list w .ordered)
-    (below-multiplicity w (multiplicity v) other (multiplicity-pos v fits) h)
+    (mem-gaps w (multiplicity v) other (gap-below-multiplicity w other (multiplicity v) (multiplicity-pos v fits) h))
     (λ m. not-both (multiplicity-in v fits) (gaps-mem v m))
-    (λ x m l. below-multiplicity w x other (gap-pos v x (gaps-mem v m)) (omega arith))
+    (λ x m l. mem-gaps w x other (gap-below-multiplicity w other x (gap-pos v x (gaps-mem v m)) (omega arith)))
     b)
 
--- no gap is a multiple of the multiplicity
-pub gap-no-multiple : (g w : ℕ) → WordOfGenus g w → (x : ℕ) → List·Memᴰ x (gaps w) → x % multiplicity w ≡ 0 → ⊥
-unfolding setOf
-gap-no-multiple g w o x i e =
-    let m : ℕ = multiplicity w in
-    let multiple : m * (x / m) ≡ x = omega (arith, div-add-mod x m) in
-    not-both (multiples-in (setOf w) refl (closed-iff w (o .fits) .0 (o .closed)) m (multiplicity-in w (o .fits)) (x / m))
-    (ap (setOf w) multiple ∙ gaps-mem w i)
-
--- so that only genus 0 has multiplicity 1
+-- only genus 0 has multiplicity 1: of a larger one, no gap is a multiple of the multiplicity
 pub multiplicity-low : (g w : ℕ) → WordOfGenus g w → leastMultiplicity g ≤ multiplicity w
 unfolding genus
 multiplicity-low zero w o = omega (arith, multiplicity-pos w (o .fits))
 multiplicity-low (suc g) w o =
     lt-of-not-le (λ l.
     let one : multiplicity w ≡ 1 = omega (arith, multiplicity-pos w (o .fits)) in
-    let none : gaps w ≡ [] = nothing (gaps w) (λ x i. gap-no-multiple (suc g) w o x i (ap (λ (k : ℕ). x % k) one ∙ mod-one x)) in
+    let none : gaps w ≡ [] = nothing (gaps w) (λ x i. gap-no-multiple w (o .fits) (o .closed) x (gaps-mem w i) (ap (λ (k : ℕ). x % k) one ∙ mod-one x)) in
     omega (arith, o .gapped, ap length none))

@@ -1,6 +1,6 @@
 -- What tests keep of a list: tests that agree on it, that all or none pass, and the parts of a list that two tests keep. Assumes nothing.
 use mathlib.Core.Path.{_≡_, refl, sym, _∙_, ap, ap₂}
-use mathlib.Core.Bool.{Bool, true, false, _||_}
+use mathlib.Core.Bool.{Bool, true, false, _&&_, _||_, and-false}
 use mathlib.Core.List.{List, [], _∷_, _++_, List·Memᴰ, List·Memᴰ·head, List·Memᴰ·tail}
 use Prim.Native.Nat.{ℕ}
 use lib.Dec.{eqb}
@@ -15,6 +15,17 @@ module _ {A : Type 0} where
   unfolding keep
   keep-same p q [] h = refl
   keep-same p q (x ∷ l) h = ap₂ (λ (b : Bool) (k : List A). keepIf b x k) (h x (List·Memᴰ·head refl)) (keep-same p q l (λ y m. h y (List·Memᴰ·tail m)))
+
+  -- what two tests keep, one after the other
+  pub keep-both : (p q : A → Bool) (l : List A) → keep p (keep q l) ≡ keep (λ x. q x && p x) l
+  unfolding keep
+  keep-both p q [] = refl
+  keep-both p q (x ∷ l) = by-value (q x) (λ e. rw e (ap (keepIf (p x) x) (keep-both p q l))) (λ e. rw e (keep-both p q l))
+
+  -- where all of a list that pass p pass q, p keeps of it what p keeps of those that pass q
+  pub keep-within : (p q : A → Bool) (l : List A) → ((x : A) → List·Memᴰ x l → p x ≡ true → q x ≡ true) → keep p l ≡ keep p (keep q l)
+  keep-within p q l h =
+      keep-same p (λ x. q x && p x) l (λ x m. by-value (p x) (λ e. rw (e, h x m e)) (λ e. rw e (sym (and-false (q x))))) ∙ sym (keep-both p q l)
 
   -- a test that all pass keeps the list
   pub keep-all : (p : A → Bool) (l : List A) → ((x : A) → List·Memᴰ x l → p x ≡ true) → keep p l ≡ l

@@ -5,6 +5,7 @@ use Prim.Native.Nat.{ℕ, _≤_}
 use mathlib.Core.Path.{_≡_}
 use mathlib.Core.Bool.{Bool, true, cond}
 use mathlib.Core.List.{List}
+use mathlib.Core.Option.{Option, none, some}
 use lib.Dec.{leb}
 use lib.ListN.{length}
 use Rattle.words.specs.Lists.{fronted}
@@ -16,6 +17,10 @@ use Rattle.words.specs.declared.Refusal.the-variants.{TooManyGaps, NotCl
 use Rattle.words.specs.declared.Report.{Report}
 use Rattle.words.specs.declared.NumberAnswer.{NumberAnswer}
 use Rattle.words.specs.declared.NumberAnswer.the-variants as N
+use Rattle.words.specs.declared.Found.{Found}
+use Rattle.words.specs.declared.Found.the-variants as F
+use Rattle.words.specs.declared.FoundAnswer.{FoundAnswer}
+use Rattle.words.specs.declared.FoundAnswer.the-variants as S
 use Rattle.words.specs.declared.LookAnswer.{LookAnswer}
 use Rattle.words.specs.declared.LookAnswer.the-variants as L
 
@@ -44,6 +49,16 @@ numberOf FailedInequality = 13
 abbrev pub answered : NumberAnswer → Answer ℕ
 answered (N.Refused r) = refused (numberOf r)
 answered (N.Given n) = given n
+
+-- what the cases of `Found` say: the number, or none
+abbrev pub sought : Found → Option ℕ
+sought (F.Number n) = some n
+sought F.Nothing = none
+
+-- what the cases of `FoundAnswer` say
+abbrev pub soughtAnswered : FoundAnswer → Answer (Option ℕ)
+soughtAnswered (S.Refused r) = refused (numberOf r)
+soughtAnswered (S.Given f) = given (sought f)
 
 -- a question before work: what follows where it is answered no, and what where it is answered yes
 abbrev pub ask : {A : Type 0} → Bool → A → A → A

@@ -43,6 +43,12 @@ pub record AllOf (P : Set → Type 0) (l : List ℕ) : Type 0 where
   pub ordered : Ordered Earlier l
   pub once : (w : ℕ) (i j : List·Memᴰ w l) → i ≡ j
 
+-- w is the first word in list order of all sets with P
+pub record FirstInOrder (P : Set → Type 0) (w : ℕ) : Type 0 where
+  pub fits : w < 2 ^ 64
+  pub has : P (setOf w)
+  pub first : (v : ℕ) → v < 2 ^ 64 → P (setOf v) → (v ≡ w) ⊎ Earlier w v
+
 -- l has the words of all numerical semigroups of genus g and no other, in list order, each exactly once
 abbrev pub AllOfGenus : ℕ → List ℕ → Type 0
 AllOfGenus g = AllOf (λ S. NumericalSemigroup S × HasGenus S g)

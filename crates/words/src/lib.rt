@@ -118,6 +118,18 @@ pub enum NumberAnswer {
     Given(u64),
 }
 
+// What is looked for, a word or another number: found, or that there is none.
+pub enum Found {
+    Number(u64),
+    Nothing,
+}
+
+// The answer of a call that looks for a number.
+pub enum FoundAnswer {
+    Refused(Refusal),
+    Given(Found),
+}
+
 // The answer to a look at a word.
 pub enum LookAnswer {
     Refused(Refusal),
