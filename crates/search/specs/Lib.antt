@@ -1,0 +1,2 @@
+pub mod Wanted
+pub mod Private
