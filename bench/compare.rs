@@ -1,6 +1,9 @@
-//! Random calls of the atlas, valid and damaged, and walks of all small windows, against an implementation from the plain definitions: sets
-//! of numbers, sums of two elements, gap lists. It uses no bit tricks and no seed tables but those of definition 1.3. Prints the seed, the
-//! number of calls of each kind and the number of differences, which must be 0.
+//! Random calls of the atlas, valid and damaged, walks of all small windows and searches in all small genera, against an implementation
+//! from the plain definitions: sets of numbers, sums of two elements, gap lists. It uses no bit tricks and no seed tables but those of
+//! definition 1.3. Searches in genus 19 and above are held to the lists of the atlas's own walk. Prints the seed, the number of calls of
+//! each kind and the number of differences, which must be 0.
+
+use std::collections::HashMap;
 
 // ---- the atlas, by its C interface (include/atlas.h)
 
@@ -47,6 +50,14 @@ struct Moved {
     finished: bool,
 }
 
+#[repr(C)]
+#[derive(Clone, Copy, PartialEq, Debug)]
+struct Found {
+    refused: u64,
+    found: bool,
+    word: u64,
+}
+
 extern "C" {
     fn atlas_look(word: u64) -> Report;
     fn atlas_seed_table(word: u64) -> Number;
@@ -62,6 +73,7 @@ extern "C" {
     fn atlas_elementary(frobenius: u64, genus: u64) -> Number;
     fn atlas_kunz(word: u64, out: *mut u8, length: usize) -> Number;
     fn atlas_word_from_kunz(list: *const u8, length: usize) -> Number;
+    fn atlas_find(genus: u64, largest_gap: i8, multiplicity: u8) -> Found;
 }
 
 // ---- the plain definitions
@@ -288,6 +300,27 @@ fn below(word: u64, left: u64, lowest: u8, highest: u8, most: usize, list: &mut 
         }
     } else if inside {
         list.push(word);
+    }
+}
+
+/// The first word of a list with each pair of a largest gap and a multiplicity.
+type Firsts = HashMap<(i64, u64), u64>;
+
+fn firsts(list: &[u64]) -> Firsts {
+    let mut firsts = Firsts::new();
+    for &w in list {
+        firsts.entry((largest_gap(w), multiplicity(w))).or_insert(w);
+    }
+    firsts
+}
+
+/// What is found in a list by its first words.
+fn found(firsts: &Firsts, largest_gap: i8, multiplicity: u8) -> Found {
+    let word = firsts.get(&(largest_gap as i64, multiplicity as u64)).copied();
+    Found {
+        refused: 0,
+        found: word.is_some(),
+        word: word.unwrap_or(0),
     }
 }
 
@@ -805,6 +838,75 @@ fn elementaries(n: u64, words: &Words, r: &mut Random) -> Kind {
     kind
 }
 
+/// The words of a window of a genus, by the walk.
+fn walked(genus: u64, lowest: u8, highest: u8) -> Vec<u64> {
+    let mut list = Vec::new();
+    let mut walk = unsafe { atlas_fresh_in(genus, lowest, highest) }.walk;
+    loop {
+        let mut out = [0; 4096];
+        let moved = unsafe { atlas_batch(walk, out.as_mut_ptr(), out.len()) };
+        assert!(moved.refused == 0, "the walk of genus {genus} from {lowest} to {highest}");
+        list.extend_from_slice(&out[..moved.count]);
+        if moved.finished {
+            return list;
+        }
+        walk = moved.walk;
+    }
+}
+
+/// All searches of genus 0 to 9, and those of genus 10 to 24 with a largest gap from -2 to 50 and a multiplicity from 0 to 28, of which the
+/// semigroups there have 10 to 47 and 2 to 25.
+fn small_finds(words: &Words) -> Kind {
+    let mut kind = Kind::new("find in small genera");
+    for genus in 0..=24 {
+        let firsts = match words.lists.get(genus as usize) {
+            Some(list) => firsts(list),
+            None => firsts(&walked(genus, 1, 33)),
+        };
+        let (largest_gaps, multiplicities) = if genus <= 9 { (-128..=127, 0..=255) } else { (-2..=50, 0..=28) };
+        for f in largest_gaps {
+            for m in multiplicities.clone() {
+                kind.same(unsafe { atlas_find(genus, f, m) }, found(&firsts, f, m), &|| format!("{genus} {f} {m}"));
+            }
+        }
+    }
+    kind
+}
+
+/// Random searches of genus 25 to 32 for multiplicities that few words have, and refused ones; a word found, none and a refusal are met.
+fn finds(n: u64, r: &mut Random) -> Kind {
+    let mut kind = Kind::new("find");
+    let mut met = [0u64; 4];
+    let mut windows = HashMap::new();
+    for _ in 0..n {
+        let genus = if r.below(16) == 0 { [33, 1 << 63, u64::MAX][r.below(3) as usize] } else { 25 + r.below(8) };
+        let near = genus.min(32);
+        let m = match r.below(8) {
+            0 => [0, 255][r.below(2) as usize],
+            1..=4 => r.below(9) as u8,
+            _ => (near - 6 + r.below(10)) as u8,
+        };
+        let f = match r.below(8) {
+            0 => [-128, -1, 0, 127][r.below(4) as usize],
+            1 => r.next() as i8,
+            _ => (near - 1 + r.below(near + 2)) as i8,
+        };
+        let plain = if genus > 32 {
+            Found {
+                refused: 3,
+                found: false,
+                word: 0,
+            }
+        } else {
+            found(windows.entry((genus, m)).or_insert_with(|| firsts(&walked(genus, m, m))), f, m)
+        };
+        met[plain.refused as usize + plain.found as usize] += 1;
+        kind.same(unsafe { atlas_find(genus, f, m) }, plain, &|| format!("{genus} {f} {m}"));
+    }
+    assert!([0, 1, 3].iter().all(|&q| met[q] > n / 100), "each answer is met: {met:?}");
+    kind
+}
+
 fn main() {
     let seed = std::env::args().nth(1).map_or(20261115, |s| s.parse().expect("a seed is a number"));
     let mut r = Random(seed | 1);
@@ -849,6 +951,8 @@ fn main() {
         elementaries(50_000, &words, &mut r),
         listed(Kind::new("coordinates"), atlas_kunz, coordinates, 150_000, &words, &mut r),
         words_from_coordinates(200_000, &words, &mut r),
+        small_finds(&words),
+        finds(100_000, &mut r),
     ];
     println!("seed {seed}");
     for kind in &kinds {

@@ -1,6 +1,6 @@
 /* Speed of the atlas as ratios: the count and the whole walk of a genus by batches of 4,096 words, ours against the paper's recursive
    algorithm in C and against plain Rust, the same work on the same machine in one run; then calls on every word of a genus, and the walk
-   of a window of it, against the walk of it. Each time is the least of several runs. */
+   of a window of it and searches in it, against the walk of it. Each time is the least of several runs. */
 #include <inttypes.h>
 #include <stdio.h>
 #include <stdlib.h>
@@ -89,6 +89,23 @@ static uint64_t walk_looked(unsigned g, uint64_t *out, size_t n, uint64_t *mixed
 static uint64_t walk_coordinates(unsigned g, uint64_t *out, size_t n, uint64_t *mixed) { return called(g, out, n, mixed, coordinates); }
 static uint64_t walk_back(unsigned g, uint64_t *out, size_t n, uint64_t *mixed) { return called(g, out, n, mixed, coordinates_back); }
 
+/* The searches with largest gaps and multiplicities from 0 up to these. */
+enum { HIGHEST_GAP = 64, HIGHEST_MULTIPLICITY = 34 };
+
+static uint64_t all_searches(unsigned genus, uint64_t *out, size_t length, uint64_t *mixed) {
+  (void)out, (void)length;
+  uint64_t found = 0, mix = 0;
+  for (int gap = 0; gap <= HIGHEST_GAP; gap++) {
+    for (int m = 0; m <= HIGHEST_MULTIPLICITY; m++) {
+      atlas_found answer = atlas_find(genus, gap, m);
+      found += answer.found;
+      mix = mix * 31 + answer.word;
+    }
+  }
+  *mixed = mix;
+  return found;
+}
+
 static double now(void) {
   struct timespec t;
   clock_gettime(CLOCK_MONOTONIC, &t);
@@ -107,6 +124,24 @@ static double time_of(work *f, unsigned genus, size_t length, uint64_t *result, 
     if (taken < best) best = taken;
   }
   return best;
+}
+
+/* The time of the slowest of the searches, each the least of several runs. */
+static double slowest_search(unsigned genus) {
+  double slowest = 0;
+  for (int gap = 0; gap <= HIGHEST_GAP; gap++) {
+    for (int m = 0; m <= HIGHEST_MULTIPLICITY; m++) {
+      double best = 1e9;
+      for (int i = 0; i < RUNS; i++) {
+        double start = now();
+        atlas_find(genus, gap, m);
+        double taken = now() - start;
+        if (taken < best) best = taken;
+      }
+      if (best > slowest) slowest = best;
+    }
+  }
+  return slowest;
 }
 
 /* One row of the table: the same work by the three, with the same results. */
@@ -146,5 +181,10 @@ int main(void) {
   walk = time_of(our_walk, 32, LENGTH, &total, &mixed);
   printf("window 8 to 8 of genus 32: %.6f of the time of the whole walk, %.6f of its words\n", window / walk,
          (double)inside / (double)total);
+  uint64_t found;
+  double searches = time_of(all_searches, 32, LENGTH, &found, &mixed);
+  printf("%d searches of genus 32, with largest gaps 0 to %d and multiplicities 0 to %d: %" PRIu64 " find a word\n",
+         (HIGHEST_GAP + 1) * (HIGHEST_MULTIPLICITY + 1), HIGHEST_GAP, HIGHEST_MULTIPLICITY, found);
+  printf("  all together %.6f of the time of the whole walk, the slowest %.8f\n", searches / walk, slowest_search(32) / walk);
   return 0;
 }

@@ -19,6 +19,10 @@ static void check(bool holds, const char *what, int line) {
 
 static bool number_is(atlas_number a, uint64_t refused, uint64_t value) { return a.refused == refused && a.value == value; }
 
+static bool found_is(atlas_found f, uint64_t refused, bool found, uint64_t word) {
+  return f.refused == refused && f.found == found && f.word == word;
+}
+
 static bool report_is(atlas_report r, uint64_t refused, uint64_t genus, uint64_t multiplicity, uint64_t conductor, int64_t largest_gap) {
   return r.refused == refused && r.genus == genus && r.multiplicity == multiplicity && r.conductor == conductor &&
          r.largest_gap == largest_gap;
@@ -182,6 +186,22 @@ static void coordinates(void) {
   CHECK(number_is(atlas_word_from_kunz((uint8_t[]){1, 3}, 2), 13, 0));
 }
 
+static void searches(void) {
+  CHECK(found_is(atlas_find(0, -1, 1), 0, true, 0));
+  CHECK(found_is(atlas_find(0, -1, 2), 0, false, 0));
+  CHECK(found_is(atlas_find(0, 0, 1), 0, false, 0));
+  CHECK(found_is(atlas_find(4, 7, 2), 0, true, 85));
+  CHECK(found_is(atlas_find(4, 6, 2), 0, false, 0));
+  CHECK(found_is(atlas_find(4, 4, 5), 0, true, 15));
+  CHECK(found_is(atlas_find(4, 7, 3), 0, true, 75));
+  CHECK(found_is(atlas_find(4, -1, 1), 0, false, 0));
+  CHECK(found_is(atlas_find(4, -128, 0), 0, false, 0));
+  CHECK(found_is(atlas_find(4, 127, 255), 0, false, 0));
+  CHECK(found_is(atlas_find(32, 63, 2), 0, true, of_genus_32));
+  CHECK(found_is(atlas_find(32, 32, 33), 0, true, 4294967295));
+  CHECK(found_is(atlas_find(33, 5, 5), 3, false, 0));
+}
+
 int main(void) {
   words();
   both_conventions();
@@ -193,6 +213,7 @@ int main(void) {
   counts();
   generators();
   coordinates();
+  searches();
   printf("calls: %u checks, %u failed\n", checks, failures);
   return failures != 0;
 }

@@ -39,6 +39,13 @@ typedef struct {
   uint64_t value;
 } atlas_number;
 
+/* Whether there is a word that was looked for, and which; 0 where there is none. */
+typedef struct {
+  uint64_t refused;
+  bool found;
+  uint64_t word;
+} atlas_found;
+
 /* What is told of an accepted word: the conductor here is the reported one, and the largest gap is one less. */
 typedef struct {
   uint64_t refused;
@@ -125,6 +132,10 @@ atlas_number atlas_word_from_kunz(const uint8_t *list, size_t length);
 
 /* The number of semigroups of a genus whose largest gap is `frobenius`, below twice the multiplicity. Refusal 3. */
 atlas_number atlas_elementary(uint64_t frobenius, uint64_t genus);
+
+/* The first word in list order of all semigroups of a genus with this largest gap, which is -1 for the word 0, and this multiplicity.
+   Refusal 3. */
+atlas_found atlas_find(uint64_t genus, int8_t largest_gap, uint8_t multiplicity);
 
 #ifdef __cplusplus
 }

@@ -3,6 +3,7 @@
 use Prim.Native.Nat.{ℕ}
 use mathlib.Core.Bool.{Bool, true, false}
 use mathlib.Core.List.{List}
+use mathlib.Core.Option.{Option, none, some}
 use lib.Dec.{eqb, leb}
 use lib.IntN.{pos}
 use Rattle.words.specs.Answers.{Answer, refused, given, ask}
@@ -11,6 +12,7 @@ use Rattle.walk.specs.declared.Walk.{Walk}
 use Rattle.walk.specs.declared.Written.{Written}
 use Rattle.walk.specs.Walks.{Ending, batchOf}
 use Rattle.atlas.specs.declared.AtlasNumber.{AtlasNumber}
+use Rattle.atlas.specs.declared.AtlasFound.{AtlasFound}
 use Rattle.atlas.specs.declared.AtlasReport.{AtlasReport}
 use Rattle.atlas.specs.declared.AtlasWalk.{AtlasWalk}
 use Rattle.atlas.specs.declared.AtlasBegun.{AtlasBegun}
@@ -20,6 +22,12 @@ use Rattle.atlas.specs.declared.AtlasMoved.{AtlasMoved}
 abbrev pub numberIn : Answer ℕ → AtlasNumber
 numberIn (refused n) = record { refused = n; value = 0 }
 numberIn (given v) = record { refused = 0; value = v }
+
+-- a word that was looked for: whether there is one, and which
+abbrev pub foundIn : Answer (Option ℕ) → AtlasFound
+foundIn (refused n) = record { refused = n; found = false; word = 0 }
+foundIn (given none) = record { refused = 0; found = false; word = 0 }
+foundIn (given (some w)) = record { refused = 0; found = true; word = w }
 
 -- what is told of a word
 abbrev pub reportIn : Answer Report → AtlasReport

@@ -1,18 +1,21 @@
 // The calls of the atlas for callers in C and in languages that call C. An answer is a struct by value: first the number of the
 // refusal, 0 where there is none, then the values, all 0 where the call is refused. A list is a pointer and a length.
 ghost use mathlib.Core.Path.{_≡_};
-ghost use Rattle.words.specs.Answers.{answered, looked, lookOf, numberOf};
+ghost use Rattle.words.specs.Answers.{answered, soughtAnswered, looked, lookOf, numberOf};
 ghost use Rattle.tables.specs.Answers.{tableOf, childOf};
 ghost use Rattle.walk.specs.Answers.{begun, reported};
 ghost use Rattle.walk.specs.Walks.{freshOf, freshInOf, startOf, startInOf, countOf};
 ghost use Rattle.generators.specs.Generators.{generatorsOf, wordFromOf};
 ghost use Rattle.elementary.specs.Answers.{elementaryOf};
 ghost use Rattle.kunz.specs.Coordinates.{coordinatesOf, wordFromCoordinatesOf};
-ghost use Rattle.atlas.specs.Interface.{numberIn, reportIn, walkIn, begunIn, unmovedIn, movedIn, batchIn};
+ghost use Rattle.search.specs.Wanted.{findOf};
+ghost use Rattle.atlas.specs.Interface.{numberIn, foundIn, reportIn, walkIn, begunIn, unmovedIn, movedIn, batchIn};
 use walk::BatchAnswer;
 use walk::Walk;
 use walk::WalkAnswer;
 use words::Element;
+use words::Found;
+use words::FoundAnswer;
 use words::LookAnswer;
 use words::NumberAnswer;
 use words::Refusal;
@@ -22,6 +25,14 @@ use words::Refusal;
 pub struct AtlasNumber {
     pub refused: u64,
     pub value: u64,
+}
+
+// Whether there is a word that was looked for, and which, or the number of a refusal.
+#[repr(C)]
+pub struct AtlasFound {
+    pub refused: u64,
+    pub found: bool,
+    pub word: u64,
 }
 
 // What is told of a word, or the number of a refusal. The conductor is the reported one.
@@ -70,6 +81,31 @@ fn number_of(answer: NumberAnswer) -> AtlasNumber
             value: 0,
         },
         NumberAnswer::Given(value) => AtlasNumber { refused: 0, value },
+    }
+}
+
+// A word that was looked for, as they get it.
+fn found_of(answer: FoundAnswer) -> AtlasFound
+    ensures { λ r. ⌜ r ≡ foundIn (soughtAnswered answer) ⌝ }
+{
+    match answer {
+        FoundAnswer::Refused(refusal) => AtlasFound {
+            refused: refusal.number(),
+            found: false,
+            word: 0,
+        },
+        FoundAnswer::Given(found) => match found {
+            Found::Number(word) => AtlasFound {
+                refused: 0,
+                found: true,
+                word,
+            },
+            Found::Nothing => AtlasFound {
+                refused: 0,
+                found: false,
+                word: 0,
+            },
+        },
     }
 }
 
@@ -254,6 +290,14 @@ pub extern "C" fn atlas_elementary(frobenius: u64, genus: u64) -> AtlasNumber
     ensures { λ r. ⌜ r ≡ numberIn (elementaryOf frobenius genus) ⌝ }
 {
     number_of(elementary::elementary(frobenius, genus))
+}
+
+// The first word of a genus with a largest gap, which is -1 for the word 0, and a multiplicity, or that there is none. Question 3.
+#[no_mangle]
+pub extern "C" fn atlas_find(genus: u64, largest_gap: i8, multiplicity: u8) -> AtlasFound
+    ensures { λ r. ⌜ r ≡ foundIn (findOf genus «largest_gap» multiplicity) ⌝ }
+{
+    found_of(search::find(genus, largest_gap, multiplicity))
 }
 
 // The minimal generators of a word in rising order into a lent list, and their number. Questions 1, 2, 6.

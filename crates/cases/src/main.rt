@@ -1,11 +1,13 @@
-// Runs further cases of the papers on gap words, seed tables, children and windows of multiplicities, and prints what the calls answer. What
-// it prints is held to the stored file: the tables of the descendants of example 1.4 worked by hand by lemma 3.1, the rest computed apart
-// from the plain definitions. The marked cases are proved: proofs/Marked.antt.
+// Runs further cases of the papers on gap words, seed tables, children, windows of multiplicities and searches, and prints what the calls
+// answer. What it prints is held to the stored file: the tables of the descendants of example 1.4 worked by hand by lemma 3.1, the rest
+// computed apart from the plain definitions. The marked cases are proved: proofs/Marked.antt.
 use libc::STDOUT_FILENO;
 use walk::BatchAnswer;
 use walk::Walk;
 use walk::WalkAnswer;
 use words::Element;
+use words::Found;
+use words::FoundAnswer;
 use words::LookAnswer;
 use words::NumberAnswer;
 use words::Refusal;
@@ -30,6 +32,10 @@ fn signed_field(n: i64) {
     } else {
         field(n as u64);
     }
+}
+
+fn wide(n: i8) -> i64 {
+    n as i64
 }
 
 fn end() {
@@ -253,6 +259,44 @@ fn windows() {
     show_start(13, 4, 3);
 }
 
+// The first word of a genus with a largest gap and a multiplicity.
+fn show_find(genus: u64, largest_gap: i8, multiplicity: u8) {
+    text(b"find");
+    field(genus);
+    signed_field(wide(largest_gap));
+    field(multiplicity as u64);
+    text(b":");
+    let a = search::find(genus, largest_gap, multiplicity);
+    match a {
+        FoundAnswer::Refused(r) => refusal(r),
+        FoundAnswer::Given(f) => match f {
+            Found::Number(word) => field(word),
+            Found::Nothing => text(b" none"),
+        },
+    }
+    end();
+}
+
+// Searches for the only semigroup with the numbers, for the first of several, and where there is none, and refused ones.
+fn searches() {
+    show_find(0, -1, 1);
+    show_find(0, -1, 2);
+    show_find(4, 7, 2);
+    show_find(4, 6, 2);
+    show_find(4, 4, 5);
+    show_find(4, -1, 1);
+    show_find(4, -128, 3);
+    show_find(10, 17, 7);
+    show_find(32, 63, 2);
+    show_find(32, 32, 33);
+    show_find(32, 59, 6);
+    show_find(32, 57, 29);
+    show_find(32, 38, 5);
+    show_find(32, 127, 255);
+    show_find(33, 63, 2);
+    show_find(18446744073709551615, -1, 1);
+}
+
 fn main() {
     example_1_4();
     example_1_5();
@@ -261,4 +305,5 @@ fn main() {
     reported_numbers();
     ends_of_range();
     windows();
+    searches();
 }
