@@ -854,16 +854,16 @@ fn walked(genus: u64, lowest: u8, highest: u8) -> Vec<u64> {
     }
 }
 
-/// All searches of genus 0 to 9, and those of genus 10 to 24 with a largest gap from -2 to 50 and a multiplicity from 0 to 28, of which the
-/// semigroups there have 10 to 47 and 2 to 25.
+/// All searches of genus 0 to 9, and those of genus 10 to 26 with a largest gap from -2 to 54 and a multiplicity from 0 to 30, of which the
+/// semigroups there have 10 to 51 and 2 to 27.
 fn small_finds(words: &Words) -> Kind {
     let mut kind = Kind::new("find in small genera");
-    for genus in 0..=24 {
+    for genus in 0..=26 {
         let firsts = match words.lists.get(genus as usize) {
             Some(list) => firsts(list),
             None => firsts(&walked(genus, 1, 33)),
         };
-        let (largest_gaps, multiplicities) = if genus <= 9 { (-128..=127, 0..=255) } else { (-2..=50, 0..=28) };
+        let (largest_gaps, multiplicities) = if genus <= 9 { (-128..=127, 0..=255) } else { (-2..=54, 0..=30) };
         for f in largest_gaps {
             for m in multiplicities.clone() {
                 kind.same(unsafe { atlas_find(genus, f, m) }, found(&firsts, f, m), &|| format!("{genus} {f} {m}"));
@@ -873,13 +873,13 @@ fn small_finds(words: &Words) -> Kind {
     kind
 }
 
-/// Random searches of genus 25 to 32 for multiplicities that few words have, and refused ones; a word found, none and a refusal are met.
+/// Random searches of genus 27 to 32 for multiplicities that few words have, and refused ones; a word found, none and a refusal are met.
 fn finds(n: u64, r: &mut Random) -> Kind {
     let mut kind = Kind::new("find");
     let mut met = [0u64; 4];
     let mut windows = HashMap::new();
     for _ in 0..n {
-        let genus = if r.below(16) == 0 { [33, 1 << 63, u64::MAX][r.below(3) as usize] } else { 25 + r.below(8) };
+        let genus = if r.below(16) == 0 { [33, 1 << 63, u64::MAX][r.below(3) as usize] } else { 27 + r.below(6) };
         let near = genus.min(32);
         let m = match r.below(8) {
             0 => [0, 255][r.below(2) as usize],

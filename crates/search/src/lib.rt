@@ -133,8 +133,8 @@ fn first_with(genus: u64, gap: u64, m: u64) -> Found
     first_among(n, n.first_row() - 1, genus - m, gap)
 }
 
-// The word 0 for the largest gap -1 and the multiplicity 1, which it alone has.
-fn whole(largest_gap: i8, multiplicity: u8) -> Found
+// The word of genus 0 with a largest gap and a multiplicity: the word 0 has -1 and 1.
+fn of_genus_0(largest_gap: i8, multiplicity: u8) -> Found
     ensures { λ r. ⌜ sought r ≡ head? (wantedList 0 «largest_gap» multiplicity) ⌝ }
 {
     if largest_gap != -1 {
@@ -155,7 +155,7 @@ pub fn find(genus: u64, largest_gap: i8, multiplicity: u8) -> FoundAnswer
         return FoundAnswer::Refused(Refusal::GenusTooLarge);
     }
     if genus == 0 {
-        return FoundAnswer::Given(whole(largest_gap, multiplicity));
+        return FoundAnswer::Given(of_genus_0(largest_gap, multiplicity));
     }
     if largest_gap < 0 {
         return FoundAnswer::Given(Found::Nothing);

@@ -33,7 +33,7 @@ returns : tie.Need-returns
 returns c = sym (find-refused _ _ _ (c .if1 .taken))
 
 returns-2 : tie.Need-returns-2
-returns-2 c = answer (c .before .before .before) (omega arith) (rw (c .before .if2 .taken) (c .whole .ensures))
+returns-2 c = answer (c .before .before .before) (omega arith) (rw (c .before .if2 .taken) (c .of-genus-0 .ensures))
 
 returns-3 : tie.Need-returns-3
 returns-3 c =

@@ -73,7 +73,7 @@ sub-first-among c =
     let two : 2 ^ 1 ≤ 2 ^ (start first .args .m) = pow-mono (positive first) in
     omega (arith, row c)
 
--- all offsets but the first
+-- all its offsets but the first
 rest : (c : tie.After-first-row) → c .first-row .result - 1 ≡ 2 ^ (start (c .before .before) .args .m) - 2
 rest c = omega (arith, row c)
 
@@ -89,8 +89,7 @@ first-among-requires c κs =
 
 returns-8 : tie.Need-returns-8
 returns-8 c =
-    let row = c .before in
-    rw (word (row .before .before), rest row) at (c .first-among .ensures)
+    rw (word (c .before .before .before), rest (c .before)) at (c .first-among .ensures)
     ∙ sym (ap head? (wanted-below _ _ _ (omega arith) (omega arith) (omega arith)))
 
 pub first-with-spec : {M : Type 1} → statement M
