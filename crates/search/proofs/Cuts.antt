@@ -41,14 +41,14 @@ pub record Leaf (r w v : ℕ) : Type 0 where
   pub grows : conductor w + r ≤ conductor v
   pub stays : (a : ℕ) → a < conductor w → setOf w a ≡ true → setOf v a ≡ true
 
-pub leaf : (r w : ℕ) → Levels r w → {v : ℕ} → List·Memᴰ v (leaves r w) → Leaf r w v
+pub leaf-of : (r w : ℕ) → Levels r w → {v : ℕ} → List·Memᴰ v (leaves r w) → Leaf r w v
 unfolding leaves
-leaf zero w at m =
+leaf-of zero w at m =
     subst (Leaf 0 w) (sym (List·Memᴰ·eq-of-singleton m)) record { fits = at .fits; closed = at .closed; grows = omega arith; stays = λ a low e. e }
-leaf (suc r) w at m =
+leaf-of (suc r) w at m =
     let (x, i, j) = joined-mem (λ x. leaves r (childWord w x)) (rightGenerators w) m in
     let child = child-of r w at i in
-    let below = leaf r (childWord w x) (child-levels r w at i) j in
+    let below = leaf-of r (childWord w x) (child-levels r w at i) j in
     record {
       fits = below .fits;
       closed = below .closed;
@@ -87,7 +87,7 @@ pub cut-by-table : (r w f : ℕ) → Levels r w → conductor w ≤ f → f - co
 cut-by-table r w f at high low clear =
     none-with f (leaves r w) (λ v m e.
     let (x, y, p, q, x-low, y-low, sum) = table-clear w (at .fits) (f - conductor w) low .0 clear in
-    let below = leaf r w at m in
+    let below = leaf-of r w at m in
     let total : x + y ≡ largestGap v = omega arith in
     not-both (ap (setOf v) (sym total) ∙ closed-iff v (below .fits) .0 (below .closed) x y (below .stays x x-low p) (below .stays y y-low q))
     (largest-gap v (omega (arith, conductor-pos w))))
@@ -115,7 +115,7 @@ cut-by-room r w f at {bits} {d} offsets low far =
     let later : d ≤ i =
     ⊎-elim (λ q. omega arith) (λ n. omega (arith, subst (Ordered _<_) (low .first) (positions-ordered bits) .0 i n))
     (List·Memᴰ·cases-cons (subst (List·Memᴰ i) (low .first) j)) in
-    omega (arith, leaf r _ (child-levels r w at (offsets i j)) k .grows, child-of r w at (offsets i j) .new-conductor))
+    omega (arith, leaf-of r _ (child-levels r w at (offsets i j)) k .grows, child-of r w at (offsets i j) .new-conductor))
 
 -- ---- the last level
 

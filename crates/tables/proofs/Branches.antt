@@ -35,7 +35,7 @@ pub record TakenOff (bits at rest : ℕ) : Type 0 where
 module _ (bits : ℕ) (some : 0 < bits) (fits : bits < 2 ^ 64) where
   -- it is the lowest standing bit
   pub lowest-trailing : lowestOffset bits ≡ trailingZeros 64 bits
-  unfolding lowestOffset
+  unfolding lowestOffset positions
   lowest-trailing = ap (λ (l : List ℕ). getD l 0 64) (positions-step bits some fits)
 
   -- it stands, among the 64
@@ -44,15 +44,16 @@ module _ (bits : ℕ) (some : 0 < bits) (fits : bits < 2 ^ 64) where
       let low = trailing-lt 64 bits some fits in
       rw lowest-trailing (low, bit-cleared bits _ (trailing-stands 64 bits low) .0)
 
+  -- without it, the others are left
   pub taken-off : {at rest : ℕ} → (at ≡ lowestOffset bits) × (rest ≡ bits - 2 ^ lowestOffset bits) → TakenOff bits at rest
   taken-off {at} {rest} (e, f) = record {
     fewer = omega (arith, pow-pos (lowestOffset bits), lowest-stands .1);
     first = positions-step bits some fits ∙ rw (e, f, lowest-trailing);
   }
 
--- none is at 64
+-- where there are none it is 64
 pub no-lowest : lowestOffset 0 ≡ 64
-unfolding lowestOffset
+unfolding lowestOffset positions
 no-lowest = ap (λ (l : List ℕ). getD l 0 64) positions-zero
 
 module _ (r w : ℕ) where
@@ -62,7 +63,7 @@ module _ (r w : ℕ) where
   unfolding branches joined
   branches-none = ap (joined (λ d. leaves r (childWord w (conductor w + d)))) positions-zero
 
-  -- at is the lowest bit of bits, and rest has the others: the branch at the lowest bit comes first
+  -- at is the lowest of the offsets in bits, and rest has the others: the branch there comes first
   module _ {bits at rest : ℕ} (low : TakenOff bits at rest) where
     pub branches-first : branches r w bits ≡ leaves r (childWord w (conductor w + at)) ++ branches r w rest
     unfolding branches joined
@@ -113,8 +114,8 @@ module _ (r : ℕ) (n : Node) (at : NodeWithLevels (r + 1) n) where
   pub levels-below : Levels (suc r) w
   levels-below = subst (λ (k : ℕ). Levels k w) (add-one r) (at .levels)
 
-  pub row-is : rightGenerators w ≡ map (λ d. conductor w + d) (positions (firstRow n))
-  row-is =
+  pub first-row-offsets : rightGenerators w ≡ map (λ d. conductor w + d) (positions (firstRow n))
+  first-row-offsets =
       first-row-generators w (levels-below .fits) (levels-below .closed) (omega (arith, levels-below .few))
       ∙ ap (λ (m : Node). map (λ d. conductor w + d) (positions (firstRow m))) (sym (at .node))
 
@@ -127,6 +128,7 @@ module _ (r : ℕ) (n : Node) (at : NodeWithLevels (r + 1) n) where
     unfolding nodeOf
     child-word = ap (λ (k : Node). k .word) child-node
 
+    -- its conductor is one more than the generator
     pub child-node-conductor : childNode n d .conductor ≡ suc (conductor w + d)
     unfolding nodeOf
     child-node-conductor = ap (λ (k : Node). k .conductor) child-node ∙ child-of r w levels-below m .new-conductor
@@ -151,8 +153,8 @@ row-branches r n h at e =
     let node-levels = subst (λ (k : ℕ). NodeWithLevels k n) lower at in
     subst (Row r n) (sym e) record {
       node-levels = node-levels;
-      offsets = offsets-row (r - 1) (n .word) (firstRow n) (row-is (r - 1) n node-levels);
-      all = ap (λ (k : ℕ). leaves k (n .word)) (lower ∙ add-one (r - 1)) ∙ leaves-row (r - 1) (n .word) (firstRow n) (row-is (r - 1) n node-levels);
+      offsets = offsets-row (r - 1) (n .word) (firstRow n) (first-row-offsets (r - 1) n node-levels);
+      all = ap (λ (k : ℕ). leaves k (n .word)) (lower ∙ add-one (r - 1)) ∙ leaves-row (r - 1) (n .word) (firstRow n) (first-row-offsets (r - 1) n node-levels);
     }
 
 -- ---- the first of some children

@@ -18,7 +18,7 @@ use Rattle.tables.specs.Branches.{branches, Offsets}
 use Rattle.tables.specs.declared.Node.{Node}
 use Rattle.tables.proofs.Nodes.{next-offset}
 use Rattle.tables.proofs.Levels.{node-conductor}
-use Rattle.tables.proofs.Branches.{leaves-row, offsets-row, child-of, leaf-below, levels-below, row-is, child-word, child-with-levels}
+use Rattle.tables.proofs.Branches.{leaves-row, offsets-row, child-of, leaf-below, levels-below, first-row-offsets, child-word, child-with-levels}
 
 -- ---- the leaves from one of them on
 
@@ -97,7 +97,7 @@ next-child r n h at v m {d} e =
     let node-levels = subst (λ (k : ℕ). NodeWithLevels k n) lower at in
     let levels-here : r ≡ suc (r - 1) = omega arith in
     let found : Resumed (r - 1) w (firstRow n) v d =
-    resumed (r - 1) w (firstRow n) v (levels-below (r - 1) n node-levels) (row-is (r - 1) n node-levels) d
+    resumed (r - 1) w (firstRow n) v (levels-below (r - 1) n node-levels) (first-row-offsets (r - 1) n node-levels) d
     (λ x l s.
     ap (λ (k : ℕ). conductor w + k) (e ∙ ap (λ (c : ℕ). nextOffset c v) (node-conductor r n at))
     ∙ next-offset w v x l (at .levels .fits) s)
