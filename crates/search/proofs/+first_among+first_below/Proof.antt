@@ -1,4 +1,5 @@
--- The proof of the cycle of calls {first_among, first_below}. The levels below a node are the measure. Assumes nothing.
+-- The proof of the cycle of calls {first_among, first_below}. The levels below a node are the measure. The loop's invariant: what is left of
+-- the row has the first word that the whole row has. Assumes nothing.
 use mathlib.Core.Path.{_≡_, refl, sym, ap, _∙_, subst}
 use mathlib.Core.List.{List, head?, List·Memᴰ}
 use mathlib.Core.Option.{some}
