@@ -6,24 +6,22 @@ use mathlib.Core.Bool.{true, false, _&&_, and-comm, and-eq-true-iff}
 use mathlib.Core.List.{[], head?}
 use mathlib.Core.Option.{none, some}
 use native.Mathlib.Omega.{arith}
-use native.Mathlib.Nat.{mod-one, lt-of-not-le}
 use lib.Dec.{eqb}
 use lib.IntN.{ℤ, pos, negsuc}
 use lib.Signed.{ltZ}
 use borrow.Author.Tests.{eqb-true, ltb-true}
 use Rattle.words.specs.Lists.{run, keep, keepIf}
-use Rattle.words.specs.Words.{bit, setOf, genus, largestGap, conductor}
+use Rattle.words.specs.Words.{bit, setOf, largestGap, conductor}
 use Rattle.words.specs.Elements.{multiplicity}
 use Rattle.words.specs.GenusList.{genusList}
 use Rattle.words.specs.Tree.{leaves}
 use Rattle.words.proofs.Booleans.{is-false}
 use Rattle.words.proofs.Lists.{nothing, keep-mem}
 use Rattle.words.proofs.Kept.{keep-same, keep-none, keep-both}
-use Rattle.words.proofs.Words.{genus-zero}
-use Rattle.words.proofs.Elements.{largest-gap, multiplicity-pos, multiplicity-le-genus, genus-lt-conductor}
+use Rattle.words.proofs.Elements.{largest-gap, largest-gap-pos, multiplicity-le-genus, genus-lt-conductor}
 use Rattle.words.proofs.Reported.{no-gap-reported, largest-gaps-agree}
-use Rattle.words.proofs.Closure.{conductor-bound, gap-no-multiple}
-use Rattle.words.proofs.GenusList.{WordOfGenus, genus-list-mem}
+use Rattle.words.proofs.Closure.{conductor-bound, gap-no-multiple, multiplicity-from-two}
+use Rattle.words.proofs.GenusList.{WordOfGenus, word-nonzero, genus-list-mem}
 use Rattle.words.proofs.Leaves.{genus-list-leaves}
 use Rattle.search.specs.Wanted.{eqZ, hasNumbers, wantedList}
 use Rattle.search.specs.Private.{withLargestGap}
@@ -38,22 +36,16 @@ pub record Possible (g f m : ℕ) : Type 0 where
   pub no-multiple : f % m ≢ 0
 
 module _ (g : ℕ) (some-gap : 1 ≤ g) where
-  nonzero : {w : ℕ} → WordOfGenus g w → w ≢ 0
-  nonzero o e = omega (arith, o .gapped, ap genus e, genus-zero)
-
   pub possible : (w : ℕ) → WordOfGenus g w → Possible g (largestGap w) (multiplicity w)
   unfolding conductor
   possible w o =
-      let at-least = genus-lt-conductor w (o .fits) in
-      let no-multiple = gap-no-multiple w (o .fits) (o .closed) (largestGap w) (largest-gap w (omega (arith, o .gapped))) in
+      let nonzero = word-nonzero o some-gap in
       record {
-        lowest = lt-of-not-le (λ l.
-            let one : multiplicity w ≡ 1 = omega (arith, multiplicity-pos w (o .fits)) in
-            no-multiple (ap (λ (m : ℕ). largestGap w % m) one ∙ mod-one (largestGap w)));
+        lowest = multiplicity-from-two w (o .fits) (o .closed) nonzero;
         highest = omega (arith, multiplicity-le-genus w (o .fits), o .gapped);
-        from-genus = omega (arith, o .gapped);
+        from-genus = omega (arith, genus-lt-conductor w (o .fits), o .gapped);
         below-twice = omega (arith, conductor-bound w (o .fits) (o .closed), o .gapped);
-        no-multiple = no-multiple;
+        no-multiple = gap-no-multiple w (o .fits) (o .closed) (largestGap w) (largest-gap w (largest-gap-pos w (o .fits) nonzero));
       }
 
   -- the wanted words are those of the multiplicity that have the largest gap
@@ -62,7 +54,7 @@ module _ (g : ℕ) (some-gap : 1 ≤ g) where
   wanted-of f m =
       keep-same _ _ (genusList g) (λ w i.
       let o = genus-list-mem g i in
-      ap (λ (z : ℤ). eqZ z (pos f) && eqb (multiplicity w) m) (largest-gaps-agree w (o .fits) (nonzero o))
+      ap (λ (z : ℤ). eqZ z (pos f) && eqb (multiplicity w) m) (largest-gaps-agree w (o .fits) (word-nonzero o some-gap))
       ∙ and-comm (eqb (largestGap w) f) (eqb (multiplicity w) m))
       ∙ sym (keep-both (λ v. eqb (largestGap v) f) (λ w. eqb (multiplicity w) m) (genusList g))
 
@@ -82,7 +74,7 @@ module _ (g : ℕ) (some-gap : 1 ≤ g) where
   none-negative (negsuc n) m e =
       ap head? (keep-none _ (genusList g) (λ w i.
       let o = genus-list-mem g i in
-      ap (λ (z : ℤ). eqZ z (negsuc n) && eqb (multiplicity w) m) (largest-gaps-agree w (o .fits) (nonzero o))))
+      ap (λ (z : ℤ). eqZ z (negsuc n) && eqb (multiplicity w) m) (largest-gaps-agree w (o .fits) (word-nonzero o some-gap))))
 
 -- ---- genus 0
 

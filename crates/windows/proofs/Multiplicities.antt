@@ -1,22 +1,20 @@
 -- The multiplicities of the words of a genus: they do not rise along list order, and only genus 0 has 1.
 -- Assumes nothing.
-use Prim.Native.Nat.{ℕ, zero, suc, _%_, _^_, _≤_, _<_}
-use mathlib.Core.Path.{_≡_, refl, sym, _∙_, ap}
+use Prim.Native.Nat.{ℕ, zero, suc, _^_, _≤_, _<_}
+use mathlib.Core.Path.{refl, sym, _∙_}
 use mathlib.Core.Logic.{inl, inr, ⊎-elim}
 use mathlib.Core.List.{List, [], _∷_, List·Memᴰ, List·Memᴰ·head, List·Memᴰ·tail, List·Memᴰ·cases-cons}
 use native.Mathlib.Omega.{arith}
-use native.Mathlib.Nat.{mod-one, lt-of-not-le, le-of-suc-le-suc}
-use lib.ListN.{length}
+use native.Mathlib.Nat.{lt-of-not-le, le-of-suc-le-suc}
 use Rattle.words.specs.Lists.{Ordered}
-use Rattle.words.specs.Words.{gaps, genus}
+use Rattle.words.specs.Words.{gaps}
 use Rattle.words.specs.Elements.{multiplicity}
 use Rattle.words.specs.GenusList.{Before, Earlier}
 use Rattle.words.proofs.Booleans.{not-both}
-use Rattle.words.proofs.Lists.{nothing}
 use Rattle.words.proofs.Words.{gaps-list, gaps-mem, mem-gaps, gap-pos}
-use Rattle.words.proofs.Closure.{gap-no-multiple}
+use Rattle.words.proofs.Closure.{multiplicity-from-two}
 use Rattle.words.proofs.Elements.{multiplicity-in, multiplicity-pos, gap-below-multiplicity}
-use Rattle.words.proofs.GenusList.{WordOfGenus}
+use Rattle.words.proofs.GenusList.{WordOfGenus, word-nonzero}
 use Rattle.windows.specs.Windows.{leastMultiplicity}
 
 -- in order, none is below the head
@@ -49,12 +47,7 @@ earlier-multiplicity v w fits other b =
     (λ x m l. mem-gaps w x other (gap-below-multiplicity w other x (gap-pos v x (gaps-mem v m)) (omega arith)))
     b)
 
--- only genus 0 has multiplicity 1: of a larger one, no gap is a multiple of the multiplicity
+-- only genus 0 has multiplicity 1
 pub multiplicity-low : (g w : ℕ) → WordOfGenus g w → leastMultiplicity g ≤ multiplicity w
-unfolding genus
 multiplicity-low zero w o = omega (arith, multiplicity-pos w (o .fits))
-multiplicity-low (suc g) w o =
-    lt-of-not-le (λ l.
-    let one : multiplicity w ≡ 1 = omega (arith, multiplicity-pos w (o .fits)) in
-    let none : gaps w ≡ [] = nothing (gaps w) (λ x i. gap-no-multiple w (o .fits) (o .closed) x (gaps-mem w i) (ap (λ (k : ℕ). x % k) one ∙ mod-one x)) in
-    omega (arith, o .gapped, ap length none))
+multiplicity-low (suc g) w o = omega (arith, multiplicity-from-two w (o .fits) (o .closed) (word-nonzero o (omega arith)))

@@ -1,7 +1,7 @@
 -- The genus list of g holds the words of the numerical semigroups of genus g, each once and in list order. Assumes nothing.
 use Prim.Native.Nat.{ℕ, zero, suc, _-_, _^_, _≤_, _<_}
 use mathlib.Core.Path.{_≡_, refl, sym, _∙_, ap, subst, subst₂, fun-ext}
-use mathlib.Core.Logic.{_↔_, inl, inr}
+use mathlib.Core.Logic.{_≢_, _↔_, inl, inr}
 use mathlib.Core.Bool.{Bool, true, false}
 use mathlib.Core.List.{List, [], _∷_, _++_, map, List·Memᴰ, List·Memᴰ·head, List·Memᴰ·eq-of-singleton, Memᴰ·map, Memᴰ·of-map, Memᴰ·cast}
 use native.Mathlib.Omega.{arith}
@@ -14,7 +14,7 @@ use Rattle.words.specs.GenusList.{risings, genusList, Before, Earlier, A
 use Rattle.words.proofs.Booleans.{not-both}
 use Rattle.words.proofs.Lists.{rising-nil, rising-cons, rising-tail, run-mem, mem-run, keep-mem, mem-keep, joined-mem, mem-joined, ordered-run, ordered-one, ordered-keep, ordered-joined, ordered-map, ordered-once, ordered-unique}
 use Rattle.words.proofs.Sets.{gaps-unique, same-of-gaps}
-use Rattle.words.proofs.Words.{GapList, gaps-of, word-genus, word-lt, same-set, word-gaps, gaps-of-word, gaps-list, word-of-gaps}
+use Rattle.words.proofs.Words.{GapList, gaps-of, word-genus, word-lt, same-set, word-gaps, gaps-of-word, gaps-list, word-of-gaps, genus-zero}
 use Rattle.words.proofs.Counting.{gap-bound}
 use Rattle.words.proofs.Closure.{closed-iff, closed-semigroup}
 
@@ -51,6 +51,10 @@ pub record WordOfGenus (g w : ℕ) : Type 0 where
   pub fits : w < 2 ^ 64
   pub closed : closed w ≡ true
   pub gapped : genus w ≡ g
+
+-- of genus 1 and up it is not the word 0
+pub word-nonzero : {g w : ℕ} → WordOfGenus g w → 1 ≤ g → w ≢ 0
+word-nonzero o h e = omega (arith, o .gapped, ap genus e, genus-zero)
 
 -- the list holds just these words
 pub genus-list-mem : (g : ℕ) {w : ℕ} → List·Memᴰ w (genusList g) → WordOfGenus g w

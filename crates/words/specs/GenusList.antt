@@ -43,7 +43,7 @@ pub record AllOf (P : Set → Type 0) (l : List ℕ) : Type 0 where
   pub ordered : Ordered Earlier l
   pub once : (w : ℕ) (i j : List·Memᴰ w l) → i ≡ j
 
--- w is the first word in list order of all sets with P
+-- w is the first in list order of the words whose sets have P
 pub record FirstInOrder (P : Set → Type 0) (w : ℕ) : Type 0 where
   pub fits : w < 2 ^ 64
   pub has : P (setOf w)
