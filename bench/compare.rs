@@ -873,7 +873,7 @@ fn small_finds(words: &Words) -> Kind {
     kind
 }
 
-/// Random searches of genus 27 to 32 for multiplicities that few words have, and refused ones; a word found, none and a refusal are met.
+/// Random searches of genus 27 to 32, and refused ones; a word found, none and a refusal are met.
 fn finds(n: u64, r: &mut Random) -> Kind {
     let mut kind = Kind::new("find");
     let mut met = [0u64; 4];
@@ -881,11 +881,7 @@ fn finds(n: u64, r: &mut Random) -> Kind {
     for _ in 0..n {
         let genus = if r.below(16) == 0 { [33, 1 << 63, u64::MAX][r.below(3) as usize] } else { 27 + r.below(6) };
         let near = genus.min(32);
-        let m = match r.below(8) {
-            0 => [0, 255][r.below(2) as usize],
-            1..=4 => r.below(9) as u8,
-            _ => (near - 6 + r.below(10)) as u8,
-        };
+        let m = if r.below(8) == 0 { [0, 255][r.below(2) as usize] } else { r.below(36) as u8 };
         let f = match r.below(8) {
             0 => [-128, -1, 0, 127][r.below(4) as usize],
             1 => r.next() as i8,

@@ -194,6 +194,7 @@ static void searches(void) {
   CHECK(found_is(atlas_find(4, 6, 2), 0, false, 0));
   CHECK(found_is(atlas_find(4, 4, 5), 0, true, 15));
   CHECK(found_is(atlas_find(4, 7, 3), 0, true, 75));
+  CHECK(found_is(atlas_find(5, 7, 4), 0, true, 87));
   CHECK(found_is(atlas_find(4, -1, 1), 0, false, 0));
   CHECK(found_is(atlas_find(4, -128, 0), 0, false, 0));
   CHECK(found_is(atlas_find(4, 127, 255), 0, false, 0));

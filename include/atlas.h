@@ -4,10 +4,10 @@
    has at most 32 gaps and its set is closed under addition.
 
    Two conventions meet at the word 0, the semigroup without gaps; for every other word they agree. What is reported, by atlas_look and in
-   the lines of the listing program, is what other algebra packages give: the conductor is the least number from which on all belong to
-   the set, 0 for the word 0, and the largest gap is one less, -1 there. Seed tables and children are counted by the conductor of the
-   seeds paper: the largest gap plus 1, and 1 for the word 0, whose seed table has one entry and whose child is at 1. Below, "the
-   conductor" is the paper's unless it is called reported.
+   the lines of the listing program, and the largest gap that atlas_find takes are what other algebra packages give: the conductor is the
+   least number from which on all belong to the set, 0 for the word 0, and the largest gap is one less, -1 there. Seed tables and children
+   are counted by the conductor of the seeds paper: the largest gap plus 1, and 1 for the word 0, whose seed table has one entry and whose
+   child is at 1. Below, "the conductor" is the paper's unless it is called reported.
 
    No call asks anything of its arguments, and every call returns. In each answer `refused` comes first: 0 for an answer, otherwise the
    number of the refusal, and then all values are 0, no list is written and a walk comes back as it was given. A list is a pointer and a
@@ -133,8 +133,8 @@ atlas_number atlas_word_from_kunz(const uint8_t *list, size_t length);
 /* The number of semigroups of a genus whose largest gap is `frobenius`, below twice the multiplicity. Refusal 3. */
 atlas_number atlas_elementary(uint64_t frobenius, uint64_t genus);
 
-/* The first word in list order of all semigroups of a genus with this largest gap, which is -1 for the word 0, and this multiplicity.
-   Refusal 3. */
+/* The word of the first semigroup of a genus in list order with this largest gap, which is -1 for the word 0, and this multiplicity; `found`
+   is false where there is none. Refusal 3. */
 atlas_found atlas_find(uint64_t genus, int8_t largest_gap, uint8_t multiplicity);
 
 #ifdef __cplusplus

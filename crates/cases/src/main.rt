@@ -34,6 +34,7 @@ fn signed_field(n: i64) {
     }
 }
 
+// A signed byte as a signed number of 64 bits.
 fn wide(n: i8) -> i64 {
     n as i64
 }
@@ -284,6 +285,7 @@ fn searches() {
     show_find(4, 7, 2);
     show_find(4, 6, 2);
     show_find(4, 4, 5);
+    show_find(5, 7, 4);
     show_find(4, -1, 1);
     show_find(4, -128, 3);
     show_find(10, 17, 7);

@@ -1,63 +1,35 @@
 -- The cuts: branches below a word in which no word has a wanted largest gap f, and what decides at the last level. With c the conductor of
--- the word, a branch at the offset d with r levels below it has largest gaps from c + d + r on; and no word below it has a largest gap that
--- is a sum of two elements below c. Assumes nothing.
+-- the word, no word below it has a gap that is a sum of two elements below c; and the words r levels below its child at the offset d have
+-- largest gaps from c + d + r on. Assumes nothing.
 use Prim.Native.Nat.{ℕ, zero, suc, _+_, _-_, _^_, _≤_, _<_}
-use mathlib.Core.Path.{_≡_, sym, ap, ap₂, _∙_, subst}
+use mathlib.Core.Path.{_≡_, sym, ap, _∙_, subst}
 use mathlib.Core.Logic.{_≢_, ⊎-elim}
-use mathlib.Core.Bool.{true, false, not, _&&_, and-eq-true-iff}
+use mathlib.Core.Bool.{true, false, not, Bool·not-not}
 use mathlib.Core.List.{List, [], _++_, head?, List·Memᴰ, List·Memᴰ·head, List·Memᴰ·cases-cons, List·Memᴰ·eq-of-singleton}
 use mathlib.Core.Option.{none, some}
 use native.Mathlib.Omega.{arith}
-use lib.Dec.{ltb}
-use borrow.Author.Tests.{eqb-true, eq-eqb, ne-eqb, ltb-true, not-true}
+use borrow.Author.Tests.{eqb-true, eq-eqb, ne-eqb}
 use Rattle.words.specs.Lists.{Ordered}
-use Rattle.words.specs.Words.{bit, setOf, largestGap, conductor, closed, childWord}
+use Rattle.words.specs.Sets.{sumOfTwo}
+use Rattle.words.specs.Words.{bit, setOf, genus, largestGap, conductor, childWord}
 use Rattle.words.specs.Positions.{positions}
 use Rattle.words.specs.Elements.{rightGenerators}
 use Rattle.words.specs.Tree.{leaves}
-use Rattle.words.proofs.Booleans.{not-both}
+use Rattle.words.proofs.Booleans.{not-both, is-false}
 use Rattle.words.proofs.Lists.{nothing, keep-mem, mem-keep, keep-append, joined-mem, mem-joined}
 use Rattle.words.proofs.Kept.{keep-none}
 use Rattle.words.proofs.Heads.{head-append-some, head-append-none, head-only}
 use Rattle.words.proofs.StandingBits.{positions-mem, mem-positions, positions-ordered}
-use Rattle.words.proofs.Sets.{in-without}
-use Rattle.words.proofs.Words.{child-set}
-use Rattle.words.proofs.Elements.{conductor-pos, largest-gap, element-from-conductor}
+use Rattle.words.proofs.Sets.{sum-of}
+use Rattle.words.proofs.Elements.{largest-gap}
 use Rattle.words.proofs.Closure.{closed-iff}
-use Rattle.tables.specs.Seeds.{seedTable}
-use Rattle.tables.specs.Nodes.{nodeOf}
-use Rattle.tables.specs.Levels.{Levels, NodeWithLevels}
-use Rattle.tables.specs.declared.Node.{Node}
+use Rattle.words.proofs.Tree.{descendant-keeps}
+use Rattle.tables.specs.Seeds.{seedTable, setBelow}
+use Rattle.tables.specs.Levels.{Levels}
 use Rattle.tables.specs.Branches.{branches, Offsets}
-use Rattle.tables.proofs.Seeds.{table-clear}
-use Rattle.tables.proofs.Levels.{node-conductor}
-use Rattle.tables.proofs.Branches.{TakenOff, child-of, child-levels}
+use Rattle.tables.proofs.Seeds.{below-in, table-bit}
+use Rattle.tables.proofs.Branches.{TakenOff, leaf-descendant, child-of, child-levels}
 use Rattle.search.specs.Private.{withLargestGap}
-
--- v is a closed word r levels below w: its conductor is larger by r at least, and it keeps the elements below the conductor of w
-pub record Leaf (r w v : ℕ) : Type 0 where
-  pub fits : v < 2 ^ 64
-  pub closed : closed v ≡ true
-  pub grows : conductor w + r ≤ conductor v
-  pub stays : (a : ℕ) → a < conductor w → setOf w a ≡ true → setOf v a ≡ true
-
-pub leaf-of : (r w : ℕ) → Levels r w → {v : ℕ} → List·Memᴰ v (leaves r w) → Leaf r w v
-unfolding leaves
-leaf-of zero w at m =
-    subst (Leaf 0 w) (sym (List·Memᴰ·eq-of-singleton m)) record { fits = at .fits; closed = at .closed; grows = omega arith; stays = λ a low e. e }
-leaf-of (suc r) w at m =
-    let (x, i, j) = joined-mem (λ x. leaves r (childWord w x)) (rightGenerators w) m in
-    let child = child-of r w at i in
-    let below = leaf-of r (childWord w x) (child-levels r w at i) j in
-    record {
-      fits = below .fits;
-      closed = below .closed;
-      grows = omega (arith, below .grows, child .new-conductor, child .high);
-      stays = λ a low e.
-          below .stays a (omega (arith, child .new-conductor, child .high))
-          (child-set w x (omega (arith, child .high, conductor-pos w)) (element-from-conductor w (at .fits) x (child .high)) a
-          ∙ in-without x (setOf w) (λ q. omega (arith, child .high)) e);
-    }
 
 -- where no word of a list has the largest gap f, none is kept
 none-with : (f : ℕ) (l : List ℕ) → ((v : ℕ) → List·Memᴰ v l → largestGap v ≢ f) → withLargestGap f l ≡ []
@@ -67,6 +39,7 @@ none-with f l h = keep-none _ l (λ v m. ne-eqb (largestGap v) f (h v m))
 -- ---- one list of words after the other
 
 module _ (f : ℕ) (k l : List ℕ) {both : List ℕ} (parts : both ≡ k ++ l) where
+  -- the words of both lists that have it
   in-parts : withLargestGap f both ≡ withLargestGap f k ++ withLargestGap f l
   unfolding withLargestGap
   in-parts = ap (withLargestGap f) parts ∙ keep-append _ k l
@@ -81,29 +54,40 @@ module _ (f : ℕ) (k l : List ℕ) {both : List ℕ} (parts : both ≡ k ++ l) 
 
 -- ---- a sum of two elements below the conductor is never a gap
 
--- up to twice the conductor the table tells which numbers are such sums
-pub cut-by-table : (r w f : ℕ) → Levels r w → conductor w ≤ f → f - conductor w < conductor w → bit (seedTable w) (f - conductor w) ≡ false
-    → withLargestGap f (leaves r w) ≡ []
-cut-by-table r w f at high low clear =
-    none-with f (leaves r w) (λ v m e.
-    let (x, y, p, q, x-low, y-low, sum) = table-clear w (at .fits) (f - conductor w) low .0 clear in
-    let below = leaf-of r w at m in
-    let total : x + y ≡ largestGap v = omega arith in
-    not-both (ap (setOf v) (sym total) ∙ closed-iff v (below .fits) .0 (below .closed) x y (below .stays x x-low p) (below .stays y y-low q))
-    (largest-gap v (omega (arith, conductor-pos w))))
+-- all words below w keep the two elements, so that the sum is an element of each
+pub cut-by-sum : (r w f : ℕ) → Levels r w → sumOfTwo (setBelow w (conductor w)) f ≡ true → withLargestGap f (leaves r w) ≡ []
+cut-by-sum r w f at e =
+    none-with f (leaves r w) (λ v m largest.
+    let s = sum-of (setBelow w (conductor w)) f e in
+    let d = leaf-descendant r w at m in
+    let kept : (a : ℕ) → setBelow w (conductor w) a ≡ true → setOf v a ≡ true =
+    λ a i. let (j, low) = below-in w (conductor w) a i in descendant-keeps (genus w + r) w (at .fits) d a low j in
+    let total : s .one + s .other ≡ largestGap v = omega (arith, s .sum) in
+    not-both (ap (setOf v) (sym total) ∙ closed-iff v (d .word .fits) .0 (d .word .closed) (s .one) (s .other) (kept (s .one) (s .one-in)) (kept (s .other) (s .other-in)))
+    (largest-gap v (omega (arith, s .one-pos))))
 
--- the node of the word has both
-pub cut-by-node : (r : ℕ) (n : Node) (f : ℕ) → NodeWithLevels r n → n .conductor ≤ f
-    → (ltb (f - n .conductor) (n .conductor) && not (bit (n .table) (f - n .conductor))) ≡ true → withLargestGap f (leaves r (n .word)) ≡ []
-unfolding nodeOf
-cut-by-node r n f at high e =
-    let same = at .node in
-    let (low, clear) = and-eq-true-iff (ltb (f - n .conductor) (n .conductor)) (not (bit (n .table) (f - n .conductor))) .0 e in
-    let c : n .conductor ≡ conductor (n .word) = node-conductor r n at in
-    cut-by-table r (n .word) f (at .levels) (omega arith) (omega (arith, ltb-true (f - n .conductor) (n .conductor) low))
-    (ap₂ (λ (T x : ℕ). bit T (f - x)) (sym (ap (λ (k : Node). k .table) same)) (sym c) ∙ not-true _ clear)
+-- below 2 c the table of a word with conductor c tells which numbers are such sums, and from 2 c on none is
+module _ (w f : ℕ) (fits : w < 2 ^ 64) (high : conductor w ≤ f) where
+  pub sum-by-table : f - conductor w < conductor w → not (bit (seedTable w) (f - conductor w)) ≡ sumOfTwo (setBelow w (conductor w)) f
+  sum-by-table low =
+      let there : conductor w + (f - conductor w) ≡ f = omega arith in
+      ap not (table-bit w fits (f - conductor w) low) ∙ Bool·not-not _ ∙ ap (sumOfTwo (setBelow w (conductor w))) there
+
+  pub no-sum : conductor w ≤ f - conductor w → sumOfTwo (setBelow w (conductor w)) f ≡ false
+  no-sum far = is-false _ (λ e.
+      let s = sum-of (setBelow w (conductor w)) f e in
+      omega (arith, s .sum, below-in w (conductor w) (s .one) (s .one-in) .1, below-in w (conductor w) (s .other) (s .other-in) .1))
 
 -- ---- too few numbers up to f for the gaps still to come
+
+-- a word r levels below w has a conductor larger by r at least
+leaf-grows : (r w : ℕ) → Levels r w → {v : ℕ} → List·Memᴰ v (leaves r w) → conductor w + r ≤ conductor v
+unfolding leaves
+leaf-grows zero w at m = omega (arith, ap conductor (List·Memᴰ·eq-of-singleton m))
+leaf-grows (suc r) w at m =
+    let (x, i, j) = joined-mem (λ x. leaves r (childWord w x)) (rightGenerators w) m in
+    let child = child-of r w at i in
+    omega (arith, leaf-grows r (childWord w x) (child-levels r w at i) j, child .new-conductor, child .high)
 
 -- d is the lowest of the offsets in bits: below the child there, and below those at larger offsets, the largest gap is at least c + d + r
 pub cut-by-room : (r w f : ℕ) → Levels (suc r) w → {bits d rest : ℕ} → Offsets w bits → TakenOff bits d rest → f < conductor w + d + r
@@ -115,7 +99,7 @@ cut-by-room r w f at {bits} {d} offsets low far =
     let later : d ≤ i =
     ⊎-elim (λ q. omega arith) (λ n. omega (arith, subst (Ordered _<_) (low .first) (positions-ordered bits) .0 i n))
     (List·Memᴰ·cases-cons (subst (List·Memᴰ i) (low .first) j)) in
-    omega (arith, leaf-of r _ (child-levels r w at (offsets i j)) k .grows, child-of r w at (offsets i j) .new-conductor))
+    omega (arith, leaf-grows r _ (child-levels r w at (offsets i j)) k, child-of r w at (offsets i j) .new-conductor))
 
 -- ---- the last level
 

@@ -18,14 +18,13 @@ use Rattle.words.specs.Elements.{multiplicity, rightGenerators}
 use Rattle.words.specs.GenusList.{genusList, descendants}
 use Rattle.words.specs.Tree.{leaves}
 use Rattle.words.proofs.Booleans.{not-both, is-true}
-use Rattle.words.proofs.Lists.{run-mem, mem-run, run-append, keep-append, joined-mem, begins-append, mem-middle}
+use Rattle.words.proofs.Lists.{run-mem, mem-run, run-append, keep-append, begins-append, mem-middle}
 use Rattle.words.proofs.Kept.{keep-all, keep-none, keep-within}
 use Rattle.words.proofs.Bits.{bit-zero, bit-not, bits-decide, bit-cleared}
 use Rattle.words.proofs.StandingBits.{trailing-below, positions-ordered}
 use Rattle.words.proofs.Words.{element-past, gaps-mem}
 use Rattle.words.proofs.Elements.{conductor-least, genus-lt-conductor, multiplicity-in, multiplicity-pos, multiplicity-least, gap-below-multiplicity, multiplicity-le-genus}
 use Rattle.words.proofs.GenusList.{WordOfGenus, genus-list-mem}
-use Rattle.words.proofs.Tree.{multiplicity-stays}
 use Rattle.words.proofs.Leaves.{descendants-leaves}
 use Rattle.words.proofs.First.{first-gaps, genus-list-first}
 use Rattle.tables.specs.Seeds.{seedTable}
@@ -34,7 +33,8 @@ use Rattle.tables.specs.Levels.{Levels, NodeWithLevels}
 use Rattle.tables.specs.Branches.{branches, Offsets}
 use Rattle.tables.proofs.Seeds.{table-lt, table-clear}
 use Rattle.tables.proofs.Nodes.{first-row-generators}
-use Rattle.tables.proofs.Branches.{TakenOff, lowest-trailing, taken-off, branches-first, offset-first, offsets-rest, leaves-row, offsets-row, leaf-below}
+use Rattle.tables.proofs.Levels.{accepted-levels}
+use Rattle.tables.proofs.Branches.{TakenOff, lowest-trailing, taken-off, branches-first, offset-first, offsets-rest, leaves-row, offsets-row, leaf-below, later-multiplicity}
 
 -- the gaps of a word of a multiplicity above n begin with the numbers from 1 to n
 gaps-begin : (v n : ℕ) → v < 2 ^ 64 → n ≤ 64 → n < multiplicity v → begins (run 1 n) (gaps v) ≡ true
@@ -62,15 +62,16 @@ module _ (m : ℕ) (positive : 1 ≤ m) (h : m ≤ 33) where
       genus-list-mem (m - 1) (subst (List·Memᴰ w) (sym e) (List·Memᴰ·head refl))
 
   -- so that there are r levels below it up to genus 32
-  levels-below : (r : ℕ) → m + r ≤ 33 → Levels r w
-  levels-below r few = let o = word in record { fits = o .fits; closed = o .closed; few = omega arith }
+  pub first-node-levels : (r : ℕ) → m + r ≤ 33 → NodeWithLevels r (nodeOf (2 ^ (m - 1) - 1))
+  first-node-levels r few = let o = word in accepted-levels r w (o .fits) record { closed = o .closed; few = omega arith } (omega arith)
 
+  -- its gaps
   has-gaps : gaps w ≡ run 1 (m - 1)
   has-gaps = first-gaps (m - 1) (omega arith)
 
   -- its conductor and its multiplicity are m
-  is-conductor : conductor w ≡ m
-  is-conductor =
+  pub first-conductor : conductor (2 ^ (m - 1) - 1) ≡ m
+  first-conductor =
       let o = word in
       let low = conductor-least w (o .fits) m positive (λ x l. element-past w (m - 1) x (omega (arith, pow-pos (m - 1))) (omega arith)) in
       omega (arith, genus-lt-conductor w (o .fits))
@@ -91,7 +92,7 @@ module _ (m : ℕ) (positive : 1 ≤ m) (h : m ≤ 33) where
   is-table : seedTable w ≡ 2 ^ m - 1
   is-table =
       let fits = word .fits in
-      let c = is-conductor in
+      let c = first-conductor in
       let least = is-multiplicity in
       bits-decide m (seedTable w) (2 ^ m - 1) (subst (λ (n : ℕ). seedTable w < 2 ^ n) c (table-lt w fits)) (omega (arith, pow-pos m)) (λ l k.
       is-true (bit (seedTable w) l) (λ e.
@@ -102,13 +103,14 @@ module _ (m : ℕ) (positive : 1 ≤ m) (h : m ≤ 33) where
   -- its node
   pub first-node : nodeOf (2 ^ (m - 1) - 1) ≡ record { word = 2 ^ (m - 1) - 1; table = 2 ^ m - 1; conductor = m }
   unfolding nodeOf
-  first-node = λ i. record { word = w; table = is-table i; conductor = is-conductor i }
+  first-node = λ i. record { word = w; table = is-table i; conductor = first-conductor i }
 
   -- its first row has m offsets
   pub first-node-row : firstRow (nodeOf (2 ^ (m - 1) - 1)) ≡ 2 ^ m - 1
   unfolding nodeOf firstRow
   first-node-row = rw (is-table, is-multiplicity) (mod-eq-of-lt (omega (arith, pow-pos m)))
 
+  -- they are the offsets of its right generators
   row-offsets : rightGenerators w ≡ map (λ d. conductor w + d) (positions (2 ^ m - 1))
   row-offsets =
       let o = word in
@@ -147,37 +149,31 @@ module _ (m : ℕ) (positive : 1 ≤ m) (h : m ≤ 33) where
 
   module _ (r : ℕ) (few : m + r ≤ 32) where
     levels : Levels (suc r) w
-    levels = levels-below (suc r) (omega arith)
+    unfolding nodeOf
+    levels = first-node-levels (suc r) (omega arith) .levels
 
     -- below its child at the first offset m is a gap
     first-out : keep has (leaves r (childWord w (conductor w + 0))) ≡ []
     first-out = keep-none has (leaves r (childWord w (conductor w + 0))) (λ v i.
         let (l, split, fits) = leaf-below r w levels (offset-first r w lowest offsets) i in
         ne-eqb (multiplicity v) m (λ e.
-        let same : multiplicity v ≡ conductor w + 0 = omega (arith, is-conductor) in
+        let same : multiplicity v ≡ conductor w + 0 = omega (arith, first-conductor) in
         not-both (multiplicity-in v fits)
         (ap (setOf v) same ∙ gaps-mem v (subst (List·Memᴰ (conductor w + 0)) split (mem-middle (gaps w) l (conductor w + 0))))))
 
     -- below the others it stays the multiplicity
     later-in : keep has (branches r w (2 ^ m - 2)) ≡ branches r w (2 ^ m - 2)
-    unfolding branches Ordered
+    unfolding Ordered
     later-in = keep-all has (branches r w (2 ^ m - 2)) (λ v i.
-        let (d, k, n) = joined-mem _ (positions (2 ^ m - 2)) i in
-        let (l, split, fits) = leaf-below r w levels (later d k) n in
-        let past : 0 < d = subst (Ordered _<_) (lowest .first) (positions-ordered (2 ^ m - 1)) .0 d k in
-        let own = is-multiplicity in
-        eq-eqb (multiplicity v) m (multiplicity-stays w v (conductor w + d) l (word .fits) split fits (omega (arith, is-conductor)) ∙ own))
+        let past : (d : ℕ) → List·Memᴰ d (positions (2 ^ m - 2)) → 0 < d = λ d k. subst (Ordered _<_) (lowest .first) (positions-ordered (2 ^ m - 1)) .0 d k in
+        eq-eqb (multiplicity v) m (later-multiplicity r w levels (2 ^ m - 2) later past i ∙ is-multiplicity))
 
+    -- so that these are kept of all
     kept-branches : keep has (leaves (suc r) w) ≡ branches r w (2 ^ m - 2)
     kept-branches =
         ap (keep has) (leaves-row r w (2 ^ m - 1) row-offsets ∙ branches-first r w lowest)
         ∙ keep-append has (leaves r (childWord w (conductor w + 0))) (branches r w (2 ^ m - 2))
         ∙ ap₂ _++_ first-out later-in
-
--- it is a node with r levels below it up to genus 32
-pub first-node-levels : (m r : ℕ) → 1 ≤ m → m + r ≤ 33 → NodeWithLevels r (nodeOf (2 ^ (m - 1) - 1))
-unfolding nodeOf
-first-node-levels m r positive h = record { node = refl; levels = levels-below m positive (omega arith) r h }
 
 -- the bits of its first row but the first, at which m itself is removed
 pub later-offsets : (m : ℕ) → 2 ≤ m → m ≤ 32 → Offsets (2 ^ (m - 1) - 1) (2 ^ m - 2)

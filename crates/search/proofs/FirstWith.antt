@@ -13,23 +13,16 @@ use Rattle.words.specs.Lists.{keep, keepIf}
 use Rattle.words.specs.Words.{largestGap, conductor}
 use Rattle.words.specs.Elements.{multiplicity}
 use Rattle.words.specs.GenusList.{genusList}
-use Rattle.tables.specs.Nodes.{nodeOf}
 use Rattle.tables.specs.Branches.{branches}
-use Rattle.tables.specs.declared.Node.{Node}
 use Rattle.search.specs.Wanted.{wantedList}
 use Rattle.search.specs.Private.{withLargestGap}
 use Rattle.search.proofs.Possible.{wanted-of}
-use Rattle.search.proofs.FirstNode.{first-node, of-multiplicity, of-largest-multiplicity}
-
--- the conductor of the first word of multiplicity m is m
-first-conductor : (m : ℕ) → 1 ≤ m → m ≤ 33 → conductor (2 ^ (m - 1) - 1) ≡ m
-unfolding nodeOf
-first-conductor m positive h = ap (λ (n : Node). n .conductor) (first-node m positive h)
+use Rattle.search.proofs.FirstNode.{first-conductor, of-multiplicity, of-largest-multiplicity}
 
 -- ---- multiplicity g + 1
 
 module _ (g f m : ℕ) (some-gap : 1 ≤ g) (range : g ≤ 32) (most : m ≡ g + 1) where
-  -- there is one word, with the largest gap g
+  -- there is one word
   one-word : wantedList g (pos f) m ≡ withLargestGap f ((2 ^ (m - 1) - 1) ∷ [])
   one-word =
       let less : g ≡ m - 1 = omega arith in
@@ -37,14 +30,17 @@ module _ (g f m : ℕ) (some-gap : 1 ≤ g) (range : g ≤ 32) (most : m ≡ g +
       ∙ ap (withLargestGap f) (ap (λ (k : ℕ). keep (λ w. eqb (multiplicity w) k) (genusList g)) most ∙ of-largest-multiplicity g range
       ∙ ap (λ (k : ℕ). (2 ^ k - 1) ∷ []) less)
 
+  -- with the largest gap g
   one-gap : largestGap (2 ^ (m - 1) - 1) ≡ g
   unfolding conductor
   one-gap = omega (arith, first-conductor m (omega arith) (omega arith))
 
+  -- so that it is found for g
   pub one-found : f ≡ g → head? (wantedList g (pos f) m) ≡ some (2 ^ (m - 1) - 1)
   unfolding withLargestGap keep keepIf
   one-found e = ap head? one-word ∙ rw (eq-eqb (largestGap (2 ^ (m - 1) - 1)) f (one-gap ∙ sym e))
 
+  -- and for no other
   pub one-none : f ≢ g → head? (wantedList g (pos f) m) ≡ none
   unfolding withLargestGap keep keepIf
   one-none other = ap head? one-word ∙ rw (ne-eqb (largestGap (2 ^ (m - 1) - 1)) f (λ e. other (sym e ∙ one-gap)))

@@ -1,4 +1,4 @@
--- Which largest gaps and multiplicities the semigroups of a genus have, and the wanted words of genus 0 and of the others. Assumes nothing.
+-- Bounds on the largest gap and the multiplicity of a semigroup of a genus, and the wanted words of genus 0 and of the others. Assumes nothing.
 use Prim.Native.Nat.{ℕ, _+_, _*_, _%_, _≤_, _<_}
 use mathlib.Core.Path.{_≡_, refl, sym, ap, _∙_, subst₂}
 use mathlib.Core.Logic.{_≢_}
@@ -36,6 +36,7 @@ pub record Possible (g f m : ℕ) : Type 0 where
   pub no-multiple : f % m ≢ 0
 
 module _ (g : ℕ) (some-gap : 1 ≤ g) where
+  -- the largest gap and the multiplicity of every word of genus g are possible
   pub possible : (w : ℕ) → WordOfGenus g w → Possible g (largestGap w) (multiplicity w)
   unfolding conductor
   possible w o =

@@ -1,4 +1,4 @@
--- What the search answers, of all sets: the first word in list order of the numerical semigroups with the wanted numbers, or none exactly
+-- What the search answers, of all sets: the word of the first numerical semigroup in list order with the wanted numbers, or none exactly
 -- when there is no such semigroup. Assumes nothing.
 use Prim.Native.Nat.{ℕ, _^_, _≤_, _<_}
 use mathlib.Core.Path.{_≡_, ap, _∙_, subst}
@@ -66,6 +66,7 @@ module _ (g : ℕ) (f : ℤ) (m : ℕ) where
     unfolding findOf
     find-given = simp (le-leb g 32 h)
 
+    -- so that the answer and the first of the list tell each other
     find-iff : (o : Option ℕ) → (findOf g f m ≡ given o) ↔ (head? (wantedList g f m) ≡ o)
     find-iff o = (λ e. cc find-given, λ e. find-given ∙ ap given e)
 
@@ -75,7 +76,7 @@ module _ (g : ℕ) (f : ℤ) (m : ℕ) where
         let all = none-of-all (wantedList g f m) wanted-all in
         (λ e. all .0 (find-iff none .0 e), λ nowhere. find-iff none .1 (all .1 nowhere))
 
-    -- a word exactly when it is the first in list order of those that have them
+    -- a word exactly when it is that of the first semigroup in list order that has them
     pub find-first-iff : (w : ℕ) → (findOf g f m ≡ given (some w)) ↔ FirstInOrder (Wanted g f m) w
     find-first-iff w =
         let all = first-of-all (wantedList g f m) wanted-all w in

@@ -2,13 +2,13 @@
 // every branch that can't reach the largest gap.
 ghost use Prim.Native.Nat.{_+_, _*_, _-_, _%_, _^_, _≤_, _<_};
 ghost use mathlib.Core.Path.{_≡_};
-ghost use mathlib.Core.Bool.{_&&_, not};
 ghost use mathlib.Core.List.{head?};
-ghost use lib.Dec.{ltb};
 ghost use lib.IntN.{pos};
-ghost use Rattle.words.specs.Words.{bit};
+ghost use Rattle.words.specs.Sets.{sumOfTwo};
+ghost use Rattle.words.specs.Words.{conductor};
 ghost use Rattle.words.specs.Answers.{sought, soughtAnswered};
 ghost use Rattle.words.specs.Tree.{leaves};
+ghost use Rattle.tables.specs.Seeds.{setBelow};
 ghost use Rattle.tables.specs.Nodes.{nodeOf};
 ghost use Rattle.tables.specs.Levels.{NodeWithLevels};
 ghost use Rattle.tables.specs.Branches.{branches, Offsets};
@@ -21,11 +21,12 @@ use words::FoundAnswer;
 use words::Offset;
 use words::Refusal;
 
-// Is the largest gap, which is not below the node's conductor, a sum of two elements below the conductor? Up to twice the conductor the table
-// tells. Such a sum is an element of every semigroup below the node.
+// Is `gap`, which is not below the node's conductor c, a sum of two elements below c? Below 2 c the table tells, by source 001; from 2 c on no
+// number is one. Such a sum is an element of every semigroup below the node.
 fn is_low_sum(n: Node, gap: u64) -> bool
+    requires { ⌜ n ≡ nodeOf (n .word) ⌝ }
     requires { ⌜ (n .conductor ≤ gap) × (gap ≤ 63) ⌝ }
-    ensures { λ r. ⌜ r ≡ (ltb (gap - n .conductor) (n .conductor) && not (bit (n .table) (gap - n .conductor))) ⌝ }
+    ensures { λ r. ⌜ r ≡ sumOfTwo (setBelow (n .word) (conductor (n .word))) gap ⌝ }
 {
     let c = n.conductor;
     let offset = Offset::of_element(c, Element(gap));
@@ -35,7 +36,8 @@ fn is_low_sum(n: Node, gap: u64) -> bool
     n.table >> offset.0 & 1 != 1
 }
 
-// Of the children of a node at the offsets that are the bits of `rest`, the one with the largest gap: the bit at its offset decides.
+// Of the children of a node at the offsets that are the bits of `rest`, the one whose largest gap is `gap`: the bit at the offset of `gap`
+// decides.
 fn child_with(n: Node, rest: u64, gap: u64) -> Found
     requires { ⌜ NodeWithLevels 1 n ⌝ }
     requires { ⌜ Offsets (n .word) rest ⌝ }
@@ -49,7 +51,7 @@ fn child_with(n: Node, rest: u64, gap: u64) -> Found
     Found::Number(n.word + (1 << (gap - 1)))
 }
 
-// The first word with the largest gap `left` levels below a node, of which there is one at least.
+// The first of the words `left` levels below a node, 1 or more, whose largest gap is `gap`.
 fn first_below(n: Node, left: u64, gap: u64) -> Found
     requires { ⌜ NodeWithLevels left n ⌝ }
     requires { ⌜ (1 ≤ left) × (n .conductor ≤ gap) × (gap ≤ 63) ⌝ }
@@ -61,8 +63,8 @@ fn first_below(n: Node, left: u64, gap: u64) -> Found
     first_among(n, n.first_row(), left - 1, gap)
 }
 
-// The first `left` levels below those children of a node whose offsets are the bits of `rest`. Below the child without an element there are
-// `left` gaps more, so that the largest is at least the element plus `left`: from the first child that is too far on, all are.
+// The same `left` levels below those children of a node whose offsets are the bits of `rest`. After the new gap e of a child there are `left`
+// gaps to come, so that the largest is at least e + left: where that is above `gap`, it is so for all later children too.
 fn first_among(n: Node, rest: u64, left: u64, gap: u64) -> Found
     requires { ⌜ NodeWithLevels (left + 1) n ⌝ }
     requires { ⌜ Offsets (n .word) rest ⌝ }

@@ -10,14 +10,15 @@ use lib.Pow.{pow-pos}
 use Rattle.words.specs.Lists.{joined}
 use Rattle.words.specs.Words.{gaps, genus, conductor, childWord}
 use Rattle.words.specs.Positions.{positions}
-use Rattle.words.specs.Elements.{rightGenerators}
+use Rattle.words.specs.Elements.{multiplicity, rightGenerators}
 use Rattle.words.specs.Children.{Child}
 use Rattle.words.specs.Tree.{leaves}
-use Rattle.words.proofs.Lists.{joined-map}
+use Rattle.words.proofs.Lists.{joined-mem, joined-map}
 use Rattle.words.proofs.Bits.{bit-cleared}
 use Rattle.words.proofs.StandingBits.{trailing-lt, trailing-stands, positions-zero, positions-step}
 use Rattle.words.proofs.Children.{child-at}
-use Rattle.words.proofs.Tree.{descendants-mem}
+use Rattle.words.proofs.Elements.{multiplicity-le-conductor}
+use Rattle.words.proofs.Tree.{Descendant, descendants-mem, multiplicity-stays}
 use Rattle.words.proofs.Leaves.{descendants-leaves}
 use Rattle.tables.specs.Nodes.{nodeOf, childNode, firstRow, lowestOffset}
 use Rattle.tables.specs.Levels.{Levels, NodeWithLevels}
@@ -35,7 +36,7 @@ pub record TakenOff (bits at rest : ℕ) : Type 0 where
 module _ (bits : ℕ) (some : 0 < bits) (fits : bits < 2 ^ 64) where
   -- it is the lowest standing bit
   pub lowest-trailing : lowestOffset bits ≡ trailingZeros 64 bits
-  unfolding lowestOffset positions
+  unfolding lowestOffset
   lowest-trailing = ap (λ (l : List ℕ). getD l 0 64) (positions-step bits some fits)
 
   -- it stands, among the 64
@@ -53,7 +54,7 @@ module _ (bits : ℕ) (some : 0 < bits) (fits : bits < 2 ^ 64) where
 
 -- where there are none it is 64
 pub no-lowest : lowestOffset 0 ≡ 64
-unfolding lowestOffset positions
+unfolding lowestOffset
 no-lowest = ap (λ (l : List ℕ). getD l 0 64) positions-zero
 
 module _ (r w : ℕ) where
@@ -85,6 +86,11 @@ module _ (r w : ℕ) where
 
 -- ---- levels
 
+-- a leaf is a descendant
+pub leaf-descendant : (r w : ℕ) → Levels r w → {v : ℕ} → List·Memᴰ v (leaves r w) → Descendant (genus w + r) w v
+leaf-descendant r w at {v} m =
+    descendants-mem (genus w + r) w (subst (List·Memᴰ v) (sym (descendants-leaves r w (at .fits) (at .closed) (at .few))) m)
+
 module _ (r w : ℕ) (at : Levels (suc r) w) where
   -- a right generator gives a child
   pub child-of : {x : ℕ} → List·Memᴰ x (rightGenerators w) → Child w x
@@ -97,13 +103,20 @@ module _ (r w : ℕ) (at : Levels (suc r) w) where
   pub leaf-below : {x v : ℕ} → List·Memᴰ x (rightGenerators w) → List·Memᴰ v (leaves r (childWord w x))
       → (l : List ℕ) × (gaps w ++ x ∷ l ≡ gaps v) × (v < 2 ^ 64)
   leaf-below {x} {v} m n =
-      let below = child-levels m in
-      let all = descendants-leaves r (childWord w x) (below .fits) (below .closed) (below .few) in
-      let d = descendants-mem (genus (childWord w x) + r) (childWord w x) (subst (List·Memᴰ v) (sym all) n) in (
+      let d = leaf-descendant r (childWord w x) (child-levels m) n in (
         d .others,
         sym (append-assoc (gaps w) (x ∷ []) (d .others)) ∙ ap (λ (k : List ℕ). k ++ d .others) (sym (child-of m .new-gaps)) ∙ d .split,
         d .word .fits,
       )
+
+  -- below children at offsets above 0 the multiplicity stays: the conductor, and with it the multiplicity, is below the new gap
+  pub later-multiplicity : (rest : ℕ) → Offsets w rest → ((d : ℕ) → List·Memᴰ d (positions rest) → 0 < d) → {v : ℕ} → List·Memᴰ v (branches r w rest)
+      → multiplicity v ≡ multiplicity w
+  unfolding branches
+  later-multiplicity rest offsets later {v} m =
+      let (d, i, n) = joined-mem (λ d. leaves r (childWord w (conductor w + d))) (positions rest) m in
+      let (l, s, fits) = leaf-below (offsets d i) n in
+      multiplicity-stays w v (conductor w + d) l (at .fits) s fits (omega (arith, later d i, multiplicity-le-conductor w (at .fits)))
 
 -- ---- a node with r + 1 levels below it
 

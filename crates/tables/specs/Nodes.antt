@@ -1,12 +1,13 @@
--- A semigroup under way: its word, table and conductor together, its child, its first row and the lowest of its offsets, and the way to a
+-- A semigroup under way: its word, table and conductor together, its child, its first row, the lowest of some offsets, and the way to a
 -- descendant. Assumes nothing: these are definitions.
 use Prim.Native.Nat.{ℕ, _+_, _-_, _%_, _^_}
 use mathlib.Core.Bool.{cond}
 use lib.Bits.{bitOr}
 use lib.Dec.{eqb, leb, ltb}
 use lib.ListN.{getD}
-use Rattle.words.specs.Lists.{run, keep}
-use Rattle.words.specs.Words.{bit, gaps, conductor}
+use Rattle.words.specs.Lists.{keep}
+use Rattle.words.specs.Words.{gaps, conductor}
+use Rattle.words.specs.Positions.{positions}
 use Rattle.words.specs.Elements.{multiplicity}
 use Rattle.tables.specs.Seeds.{seedTable}
 use Rattle.tables.specs.Child.{childTable}
@@ -39,7 +40,7 @@ firstRow n = n .table % 2 ^ multiplicity (n .word)
 
 -- the lowest of some offsets, which are the bits of a number of 64 bits, and 64 where there are none
 unfoldable pub lowestOffset : ℕ → ℕ
-lowestOffset bits = getD (keep (bit bits) (run 0 64)) 0 64
+lowestOffset bits = getD (positions bits) 0 64
 
 -- the offset from c of the first gap of v that is not below c, and 0 where there is none or c is 0
 unfoldable pub nextOffset : ℕ → ℕ → ℕ

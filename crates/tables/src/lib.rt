@@ -111,7 +111,7 @@ pub struct Lowest {
     pub rest: u64,
 }
 
-// Takes the lowest of some offsets off: 64 and none where there are none.
+// Takes the lowest of some offsets off; where there are none, it gives 64 and 0.
 pub fn lowest_of(bits: u64) -> Lowest
     ensures { λ r. ⌜ (r .at .0 ≡ lowestOffset bits) × (r .rest ≡ bits - 2 ^ lowestOffset bits) ⌝ }
 {

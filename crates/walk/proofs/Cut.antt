@@ -1,47 +1,40 @@
 -- The cut: below a node, all words after those of one of its children have the multiplicity of the node, so that of those with at least a
 -- lowest multiplicity either all or none are there. Assumes nothing.
-use Prim.Native.Nat.{ℕ, suc, _+_, _-_, _≤_, _<_}
+use Prim.Native.Nat.{ℕ, suc, _-_, _≤_, _<_}
 use mathlib.Core.Path.{_≡_, _∙_, ap}
 use mathlib.Core.List.{List, [], _∷_, _++_, append-nil, List·Memᴰ, List·Memᴰ·eq-of-singleton}
 use native.Mathlib.Omega.{arith}
 use lib.Dec.{leb}
 use borrow.Author.Tests.{le-leb, lt-leb}
 use Rattle.words.specs.Lists.{onFrom}
-use Rattle.words.specs.Words.{conductor, childWord}
-use Rattle.words.specs.Positions.{positions, above}
+use Rattle.words.specs.Positions.{above}
 use Rattle.words.specs.Elements.{multiplicity}
 use Rattle.words.specs.Tree.{leaves}
-use Rattle.words.proofs.Lists.{keep-append, joined-mem}
+use Rattle.words.proofs.Lists.{keep-append}
 use Rattle.words.proofs.Kept.{keep-all, keep-none}
 use Rattle.words.proofs.StandingBits.{above-high}
-use Rattle.words.proofs.Elements.{multiplicity-le-conductor}
-use Rattle.words.proofs.Tree.{multiplicity-stays}
 use Rattle.tables.specs.Nodes.{childNode, firstRow}
 use Rattle.tables.specs.declared.Node.{Node}
 use Rattle.tables.specs.Levels.{Levels}
 use Rattle.tables.specs.Branches.{branches, Offsets}
-use Rattle.tables.proofs.Branches.{leaf-below, levels-below}
+use Rattle.tables.proofs.Branches.{later-multiplicity, levels-below}
 use Rattle.walk.specs.Cut.{fromMultiplicity}
 use Rattle.walk.proofs.Resuming.{Below}
 
--- the branches of w at offsets above d, which are above 0: the conductor, and with it the multiplicity, is below the new gap
+-- the branches of w at offsets above d, which are above 0, have its multiplicity
 module _ (r w row d : ℕ) (at : Levels (suc r) w) (offsets : Offsets w (above row d)) where
-  later-multiplicity : {v : ℕ} → List·Memᴰ v (branches r w (above row d)) → multiplicity v ≡ multiplicity w
-  unfolding branches
-  later-multiplicity {v} m =
-      let (i, j, n) = joined-mem (λ i. leaves r (childWord w (conductor w + i))) (positions (above row d)) m in
-      let (l, s, fits) = leaf-below r w at (offsets i j) n in
-      multiplicity-stays w v (conductor w + i) l (at .fits) s fits (omega (arith, above-high row d j, multiplicity-le-conductor w (at .fits)))
+  same : {v : ℕ} → List·Memᴰ v (branches r w (above row d)) → multiplicity v ≡ multiplicity w
+  same = later-multiplicity r w at (above row d) offsets (λ i j. omega (arith, above-high row d j))
 
   -- with less than lo, none has it
   cut : (lo : ℕ) → multiplicity w < lo → fromMultiplicity lo (branches r w (above row d)) ≡ []
   unfolding fromMultiplicity
-  cut lo h = keep-none (λ v. leb lo (multiplicity v)) _ (λ v m. ap (leb lo) (later-multiplicity m) ∙ lt-leb lo (multiplicity w) h)
+  cut lo h = keep-none (λ v. leb lo (multiplicity v)) _ (λ v m. ap (leb lo) (same m) ∙ lt-leb lo (multiplicity w) h)
 
   -- with at least lo, all have it
   uncut : (lo : ℕ) → lo ≤ multiplicity w → fromMultiplicity lo (branches r w (above row d)) ≡ branches r w (above row d)
   unfolding fromMultiplicity
-  uncut lo h = keep-all (λ v. leb lo (multiplicity v)) _ (λ v m. ap (leb lo) (later-multiplicity m) ∙ le-leb lo (multiplicity w) h)
+  uncut lo h = keep-all (λ v. leb lo (multiplicity v)) _ (λ v m. ap (leb lo) (same m) ∙ le-leb lo (multiplicity w) h)
 
 -- from a leaf v of the node n on, with at least the multiplicity lo, there are those below the child at d that has v, and then the later
 -- branches, if the node has at least lo

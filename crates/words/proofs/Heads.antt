@@ -1,17 +1,18 @@
 -- The first of a list, where there is one; and of a list of all sets with a property, in list order. Assumes nothing.
-use Prim.Native.Nat.{ℕ, _^_, _<_}
-use mathlib.Core.Path.{_≡_, refl, sym, ap, subst}
+use Prim.Native.Nat.{ℕ}
+use mathlib.Core.Path.{_≡_, refl, sym, _∙_, ap, subst, fun-ext}
 use mathlib.Core.Logic.{inl, inr, _↔_, ⊎-elim}
 use mathlib.Core.List.{List, [], _∷_, _++_, head?, List·Memᴰ, List·Memᴰ·head, List·Memᴰ·not-nil, List·Memᴰ·cases-cons}
 use mathlib.Core.Option.{none, some, Option·none-ne-some, Option·some-injective}
 use Rattle.words.specs.Lists.{Ordered}
-use Rattle.words.specs.Sets.{Set}
-use Rattle.words.specs.Words.{setOf}
-use Rattle.words.specs.GenusList.{AllOf, FirstInOrder, Earlier}
+use Rattle.words.specs.Sets.{Set, GapsOf}
+use Rattle.words.specs.Words.{setOf, gaps}
+use Rattle.words.specs.GenusList.{AllOf, FirstInOrder, Before, Earlier}
 use Rattle.words.proofs.Lists.{nothing}
 use Rattle.words.proofs.Kept.{ordered-first}
-use Rattle.words.proofs.Words.{same-set}
-use Rattle.words.proofs.GenusList.{earlier-asym}
+use Rattle.words.proofs.Sets.{gaps-unique}
+use Rattle.words.proofs.Words.{gaps-of, same-set}
+use Rattle.words.proofs.GenusList.{before-asym}
 
 module _ {A : Type 0} where
   -- a list without a first is empty
@@ -48,11 +49,7 @@ module _ {P : Set → Type 0} (l : List ℕ) (a : AllOf P l) where
     λ nowhere. ap head? (nothing l (λ w m. nowhere (setOf w) (a .only w m))),
   )
 
-  -- a word of such a set is in it
-  listed : (v : ℕ) → v < 2 ^ 64 → P (setOf v) → List·Memᴰ v l
-  listed v fits p = let (u, same, m) = a .all (setOf v) p in subst (λ (x : ℕ). List·Memᴰ x l) (same-set u v (a .fits u m) fits same) m
-
-  -- its first is the first word in list order of all such sets
+  -- its first is the word of the first such set in list order
   pub first-of-all : (w : ℕ) → (head? l ≡ some w) ↔ FirstInOrder P w
   unfolding Ordered
   first-of-all w = (
@@ -62,12 +59,17 @@ module _ {P : Set → Type 0} (l : List ℕ) (a : AllOf P l) where
         record {
           fits = a .fits w m;
           has = a .only w m;
-          first = λ v fits p.
-              ⊎-elim inl (λ i. inr (subst (Ordered Earlier) s (a .ordered) .0 v i)) (List·Memᴰ·cases-cons (subst (List·Memᴰ v) s (listed v fits p)));
+          first = λ S p k gaps-are.
+              let (v, same, i) = a .all S p in
+              let listed = gaps-unique S k (gaps v) gaps-are (subst (λ (T : Set). GapsOf T (gaps v)) (fun-ext same) (gaps-of v (a .fits v i))) in
+              ⊎-elim (λ q. inl (listed ∙ ap gaps q)) (λ j. inr (subst (Before (gaps w)) (sym listed) (subst (Ordered Earlier) s (a .ordered) .0 v j)))
+              (List·Memᴰ·cases-cons (subst (List·Memᴰ v) s i));
         },
     λ f.
-        let (t, s) = ordered-first Earlier l (a .ordered) (listed w (f .fits) (f .has)) (λ v m b.
-        ⊎-elim (λ q. earlier-asym v w b (subst (λ (x : ℕ). Earlier w x) (sym q) (subst (λ (x : ℕ). Earlier x w) q b))) (earlier-asym v w b)
-        (f .first v (a .fits v m) (a .only v m))) in
+        let (u, same, i) = a .all (setOf w) (f .has) in
+        let here = same-set u w (a .fits u i) (f .fits) same in
+        let (t, s) = ordered-first Earlier l (a .ordered) (subst (λ (x : ℕ). List·Memᴰ x l) here i) (λ v m b.
+        ⊎-elim (λ q. before-asym (gaps w) (gaps w) (rw q at b) (rw q at b)) (before-asym (gaps v) (gaps w) b)
+        (f .first (setOf v) (a .only v m) (gaps v) (gaps-of v (a .fits v m)))) in
         ap head? s,
   )

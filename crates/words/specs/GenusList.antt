@@ -5,7 +5,7 @@ use mathlib.Core.Logic.{_⊎_}
 use mathlib.Core.List.{List, [], _∷_, map, List·Memᴰ}
 use lib.ListN.{length}
 use Rattle.words.specs.Lists.{run, keep, joined, begins, Ordered}
-use Rattle.words.specs.Sets.{Set, NumericalSemigroup, HasGenus}
+use Rattle.words.specs.Sets.{Set, NumericalSemigroup, GapsOf, HasGenus}
 use Rattle.words.specs.Words.{setOf, gaps, wordOf, closed}
 
 -- all rising lists of r numbers, each at least lo and at most 64, in list order
@@ -43,11 +43,11 @@ pub record AllOf (P : Set → Type 0) (l : List ℕ) : Type 0 where
   pub ordered : Ordered Earlier l
   pub once : (w : ℕ) (i j : List·Memᴰ w l) → i ≡ j
 
--- w is the first in list order of the words whose sets have P
+-- w is the word of the first set with P in list order
 pub record FirstInOrder (P : Set → Type 0) (w : ℕ) : Type 0 where
   pub fits : w < 2 ^ 64
   pub has : P (setOf w)
-  pub first : (v : ℕ) → v < 2 ^ 64 → P (setOf v) → (v ≡ w) ⊎ Earlier w v
+  pub first : (S : Set) → P S → (l : List ℕ) → GapsOf S l → (l ≡ gaps w) ⊎ Before (gaps w) l
 
 -- l has the words of all numerical semigroups of genus g and no other, in list order, each exactly once
 abbrev pub AllOfGenus : ℕ → List ℕ → Type 0

@@ -1,5 +1,5 @@
--- The positions of the standing bits of a number, and sets of 64 numbers as bits, of which private functions of the crates above speak.
--- Assumes nothing: these are definitions.
+-- The positions of the standing bits of a number, by which `tables` says the lowest of some offsets, and sets of 64 numbers as bits, of which
+-- private functions of the crates above speak. Assumes nothing: these are definitions.
 use Prim.Native.Nat.{ℕ, _+_, _*_, _/_, _^_}
 use mathlib.Core.List.{List, map}
 use Rattle.words.specs.Lists.{run, keep}

@@ -13,7 +13,7 @@ use Rattle.tables.specs.Levels.{NodeWithLevels}
 use Rattle.tables.specs.declared.Node.{Node}
 use Rattle.tables.proofs.Levels.{node-conductor}
 use Rattle.tables.proofs.Branches.{TakenOff, taken-off, branches-none, offset-first, offsets-rest, child-of, levels-below, child-node-conductor, Row, row-branches, FirstChild, first-child}
-use Rattle.search.proofs.Cuts.{in-first, in-second, cut-by-node, cut-by-room}
+use Rattle.search.proofs.Cuts.{in-first, in-second, cut-by-sum, cut-by-room}
 use Rattle.tables.specs.Branches.{branches, Offsets}
 use Rattle.search.specs.Private.{withLargestGap}
 use Prim.Native.Nat.{ℕ, _+_, _*_, _^_, _≤_, _<_}
@@ -170,7 +170,7 @@ module _ (t : ℕ) where
   first-below-returns : first-below-lts.Need-returns (first-below-claims t) (first-below-at t) first-below.Post
   first-below-returns c =
       let start = c .before .before in
-      sym (ap head? (cut-by-node _ _ _ (start .pre .1 .0) (omega (arith, start .pre .1 .1)) (sym (c .before .is-low-sum .ensures) ∙ c .if1 .taken)))
+      sym (ap head? (cut-by-sum _ _ _ (start .pre .1 .0 .levels) (sym (c .before .is-low-sum .ensures) ∙ c .if1 .taken)))
 
   -- the node's first row
   row : (c : first-below-lts.After-first-row (first-below-claims t) (first-below-at t) first-below.Post) →
@@ -209,7 +209,7 @@ pub +first-among+first-below-spec : {M : Type 1} → statement M
     (first-among-loop-again t)
     (first-among-returns-4 t))
     λ t. first-below-lts.spec (first-below-claims t) (first-below-at t) first-below.Post
-    (λ c κs. omega (arith, c .pre .1 .1))
+    (λ c κs. (c .pre .1 .0 .node, omega (arith, c .pre .1 .1)))
     (first-below-returns t)
     (λ c κs. tt)
     (λ c. omega arith)

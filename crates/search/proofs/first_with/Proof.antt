@@ -80,7 +80,7 @@ rest c = omega (arith, row c)
 first-among-requires : tie.Need-first-among-requires
 first-among-requires c κs =
     let first = c .before .before in (
-      subst (NodeWithLevels _) (sym (first .first-node .ensures)) (first-node-levels _ _ (positive first) (omega arith)),
+      subst (NodeWithLevels _) (sym (first .first-node .ensures)) (first-node-levels _ (positive first) (most first) _ (omega arith)),
       (
         rw (word first, rest c) (later-offsets _ (omega arith) (omega arith)),
         omega (arith, ap (λ (n : Node). n .conductor) (first .first-node .ensures ∙ first-node _ (positive first) (most first))),
