@@ -1,34 +1,32 @@
 -- The cuts: branches below a word in which no word has a wanted largest gap f, and what decides at the last level. With c the conductor of
 -- the word, no word below it has a gap that is a sum of two elements below c; and the words r levels below its child at the offset d have
 -- largest gaps from c + d + r on. Assumes nothing.
-use Prim.Native.Nat.{ℕ, zero, suc, _+_, _-_, _^_, _≤_, _<_}
+use Prim.Native.Nat.{ℕ, suc, _+_, _-_, _≤_, _<_}
 use mathlib.Core.Path.{_≡_, sym, ap, _∙_, subst}
 use mathlib.Core.Logic.{_≢_, ⊎-elim}
-use mathlib.Core.Bool.{true, false, not, Bool·not-not}
+use mathlib.Core.Bool.{true, false}
 use mathlib.Core.List.{List, [], _++_, head?, List·Memᴰ, List·Memᴰ·head, List·Memᴰ·cases-cons, List·Memᴰ·eq-of-singleton}
 use mathlib.Core.Option.{none, some}
 use native.Mathlib.Omega.{arith}
 use borrow.Author.Tests.{eqb-true, eq-eqb, ne-eqb}
-use Rattle.words.specs.Lists.{Ordered}
 use Rattle.words.specs.Sets.{sumOfTwo}
 use Rattle.words.specs.Words.{bit, setOf, genus, largestGap, conductor, childWord}
 use Rattle.words.specs.Positions.{positions}
-use Rattle.words.specs.Elements.{rightGenerators}
 use Rattle.words.specs.Tree.{leaves}
-use Rattle.words.proofs.Booleans.{not-both, is-false}
+use Rattle.words.proofs.Booleans.{not-both}
 use Rattle.words.proofs.Lists.{nothing, keep-mem, mem-keep, keep-append, joined-mem, mem-joined}
 use Rattle.words.proofs.Kept.{keep-none}
 use Rattle.words.proofs.Heads.{head-append-some, head-append-none, head-only}
-use Rattle.words.proofs.StandingBits.{positions-mem, mem-positions, positions-ordered}
+use Rattle.words.proofs.StandingBits.{positions-mem, mem-positions}
 use Rattle.words.proofs.Sets.{sum-of}
 use Rattle.words.proofs.Elements.{largest-gap}
 use Rattle.words.proofs.Closure.{closed-iff}
 use Rattle.words.proofs.Tree.{descendant-keeps}
-use Rattle.tables.specs.Seeds.{seedTable, setBelow}
+use Rattle.tables.specs.Seeds.{setBelow}
 use Rattle.tables.specs.Levels.{Levels}
 use Rattle.tables.specs.Branches.{branches, Offsets}
-use Rattle.tables.proofs.Seeds.{below-in, table-bit}
-use Rattle.tables.proofs.Branches.{TakenOff, leaf-descendant, child-of, child-levels}
+use Rattle.tables.proofs.Seeds.{below-in}
+use Rattle.tables.proofs.Branches.{TakenOff, leaf-descendant, child-of, child-levels, leaf-conductor, lowest-below}
 use Rattle.search.specs.Private.{withLargestGap}
 
 -- where no word of a list has the largest gap f, none is kept
@@ -66,40 +64,17 @@ cut-by-sum r w f at e =
     not-both (ap (setOf v) (sym total) ∙ closed-iff v (d .word .fits) .0 (d .word .closed) (s .one) (s .other) (kept (s .one) (s .one-in)) (kept (s .other) (s .other-in)))
     (largest-gap v (omega (arith, s .one-pos))))
 
--- below 2 c the table of a word with conductor c tells which numbers are such sums, and from 2 c on none is
-module _ (w f : ℕ) (fits : w < 2 ^ 64) (high : conductor w ≤ f) where
-  pub sum-by-table : f - conductor w < conductor w → not (bit (seedTable w) (f - conductor w)) ≡ sumOfTwo (setBelow w (conductor w)) f
-  sum-by-table low =
-      let there : conductor w + (f - conductor w) ≡ f = omega arith in
-      ap not (table-bit w fits (f - conductor w) low) ∙ Bool·not-not _ ∙ ap (sumOfTwo (setBelow w (conductor w))) there
-
-  pub no-sum : conductor w ≤ f - conductor w → sumOfTwo (setBelow w (conductor w)) f ≡ false
-  no-sum far = is-false _ (λ e.
-      let s = sum-of (setBelow w (conductor w)) f e in
-      omega (arith, s .sum, below-in w (conductor w) (s .one) (s .one-in) .1, below-in w (conductor w) (s .other) (s .other-in) .1))
-
 -- ---- too few numbers up to f for the gaps still to come
-
--- a word r levels below w has a conductor larger by r at least
-leaf-grows : (r w : ℕ) → Levels r w → {v : ℕ} → List·Memᴰ v (leaves r w) → conductor w + r ≤ conductor v
-unfolding leaves
-leaf-grows zero w at m = omega (arith, ap conductor (List·Memᴰ·eq-of-singleton m))
-leaf-grows (suc r) w at m =
-    let (x, i, j) = joined-mem (λ x. leaves r (childWord w x)) (rightGenerators w) m in
-    let child = child-of r w at i in
-    omega (arith, leaf-grows r (childWord w x) (child-levels r w at i) j, child .new-conductor, child .high)
 
 -- d is the lowest of the offsets in bits: below the child there, and below those at larger offsets, the largest gap is at least c + d + r
 pub cut-by-room : (r w f : ℕ) → Levels (suc r) w → {bits d rest : ℕ} → Offsets w bits → TakenOff bits d rest → f < conductor w + d + r
     → withLargestGap f (branches r w bits) ≡ []
-unfolding branches conductor Ordered
+unfolding branches conductor
 cut-by-room r w f at {bits} {d} offsets low far =
     none-with f _ (λ v m e.
     let (i, j, k) = joined-mem _ (positions bits) m in
-    let later : d ≤ i =
-    ⊎-elim (λ q. omega arith) (λ n. omega (arith, subst (Ordered _<_) (low .first) (positions-ordered bits) .0 i n))
-    (List·Memᴰ·cases-cons (subst (List·Memᴰ i) (low .first) j)) in
-    omega (arith, leaf-grows r _ (child-levels r w at (offsets i j)) k, child-of r w at (offsets i j) .new-conductor))
+    let later : d ≤ i = ⊎-elim (λ q. omega arith) (λ n. omega (arith, lowest-below low n)) (List·Memᴰ·cases-cons (subst (List·Memᴰ i) (low .first) j)) in
+    omega (arith, leaf-conductor r _ (child-levels r w at (offsets i j)) k, child-of r w at (offsets i j) .new-conductor))
 
 -- ---- the last level
 

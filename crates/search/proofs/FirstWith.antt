@@ -13,11 +13,12 @@ use Rattle.words.specs.Lists.{keep, keepIf}
 use Rattle.words.specs.Words.{largestGap, conductor}
 use Rattle.words.specs.Elements.{multiplicity}
 use Rattle.words.specs.GenusList.{genusList}
+use Rattle.words.proofs.First.{first-conductor}
 use Rattle.tables.specs.Branches.{branches}
 use Rattle.search.specs.Wanted.{wantedList}
 use Rattle.search.specs.Private.{withLargestGap}
 use Rattle.search.proofs.Possible.{wanted-of}
-use Rattle.search.proofs.FirstNode.{first-conductor, of-multiplicity, of-largest-multiplicity}
+use Rattle.search.proofs.OfMultiplicity.{of-multiplicity, of-largest-multiplicity}
 
 -- ---- multiplicity g + 1
 

@@ -1,6 +1,6 @@
 pub mod Wanted
 pub mod Possible
-pub mod FirstNode
+pub mod OfMultiplicity
 pub mod Cuts
 pub mod FirstWith
 pub mod Cases

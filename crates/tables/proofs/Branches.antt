@@ -1,13 +1,13 @@
 -- The leaves below a word by the bits of its first row: one branch for each bit, in order, and the same for nodes. Assumes nothing.
-use Prim.Native.Nat.{ℕ, suc, _+_, _-_, _^_, _≤_, _<_}
+use Prim.Native.Nat.{ℕ, zero, suc, _+_, _-_, _^_, _≤_, _<_}
 use mathlib.Core.Path.{_≡_, refl, sym, _∙_, ap, subst}
-use mathlib.Core.List.{List, [], _∷_, _++_, append-assoc, map, List·Memᴰ, List·Memᴰ·head, List·Memᴰ·tail, Memᴰ·map}
+use mathlib.Core.List.{List, [], _∷_, _++_, append-assoc, map, List·Memᴰ, List·Memᴰ·head, List·Memᴰ·tail, List·Memᴰ·eq-of-singleton, Memᴰ·map}
 use native.Mathlib.Omega.{arith}
 use native.Mathlib.Numerals.{add-one}
 use lib.Count.{trailingZeros}
 use lib.ListN.{getD}
 use lib.Pow.{pow-pos}
-use Rattle.words.specs.Lists.{joined}
+use Rattle.words.specs.Lists.{joined, Ordered}
 use Rattle.words.specs.Words.{gaps, genus, conductor, childWord}
 use Rattle.words.specs.Positions.{positions}
 use Rattle.words.specs.Elements.{multiplicity, rightGenerators}
@@ -15,7 +15,7 @@ use Rattle.words.specs.Children.{Child}
 use Rattle.words.specs.Tree.{leaves}
 use Rattle.words.proofs.Lists.{joined-mem, joined-map}
 use Rattle.words.proofs.Bits.{bit-cleared}
-use Rattle.words.proofs.StandingBits.{trailing-lt, trailing-stands, positions-zero, positions-step}
+use Rattle.words.proofs.StandingBits.{trailing-lt, trailing-stands, positions-zero, positions-step, positions-ordered}
 use Rattle.words.proofs.Children.{child-at}
 use Rattle.words.proofs.Elements.{multiplicity-le-conductor}
 use Rattle.words.proofs.Tree.{Descendant, descendants-mem, multiplicity-stays}
@@ -52,6 +52,11 @@ module _ (bits : ℕ) (some : 0 < bits) (fits : bits < 2 ^ 64) where
     first = positions-step bits some fits ∙ rw (e, f, lowest-trailing);
   }
 
+-- the others are above the lowest
+pub lowest-below : {bits at rest : ℕ} → TakenOff bits at rest → {d : ℕ} → List·Memᴰ d (positions rest) → at < d
+unfolding Ordered
+lowest-below {bits} low {d} m = subst (Ordered _<_) (low .first) (positions-ordered bits) .0 d m
+
 -- where there are none it is 64
 pub no-lowest : lowestOffset 0 ≡ 64
 unfolding lowestOffset
@@ -60,6 +65,7 @@ no-lowest = ap (λ (l : List ℕ). getD l 0 64) positions-zero
 module _ (r w : ℕ) where
   -- ---- branch by branch
 
+  -- no offset, no branch
   pub branches-none : branches r w 0 ≡ []
   unfolding branches joined
   branches-none = ap (joined (λ d. leaves r (childWord w (conductor w + d)))) positions-zero
@@ -70,9 +76,11 @@ module _ (r w : ℕ) where
     unfolding branches joined
     branches-first = ap (joined (λ d. leaves r (childWord w (conductor w + d)))) (low .first)
 
+    -- it is the offset of a right generator
     pub offset-first : Offsets w bits → List·Memᴰ (conductor w + at) (rightGenerators w)
     offset-first o = o at (subst (List·Memᴰ at) (sym (low .first)) (List·Memᴰ·head refl))
 
+    -- the others are offsets too
     pub offsets-rest : Offsets w bits → Offsets w rest
     offsets-rest o d m = o d (subst (List·Memᴰ d) (sym (low .first)) (List·Memᴰ·tail m))
 
@@ -81,6 +89,7 @@ module _ (r w : ℕ) where
   unfolding branches leaves
   leaves-row row e = ap (joined (λ x. leaves r (childWord w x))) e ∙ joined-map (λ x. leaves r (childWord w x)) (λ d. conductor w + d) (positions row)
 
+  -- and they are offsets of right generators
   pub offsets-row : (row : ℕ) → rightGenerators w ≡ map (λ d. conductor w + d) (positions row) → Offsets w row
   offsets-row row e d m = subst (List·Memᴰ (conductor w + d)) (sym e) (Memᴰ·map (λ d. conductor w + d) m)
 
@@ -96,6 +105,7 @@ module _ (r w : ℕ) (at : Levels (suc r) w) where
   pub child-of : {x : ℕ} → List·Memᴰ x (rightGenerators w) → Child w x
   child-of {x} m = child-at w x (at .fits) (at .closed) (omega (arith, at .few)) m
 
+  -- with one level less below it
   pub child-levels : {x : ℕ} → List·Memᴰ x (rightGenerators w) → Levels r (childWord w x)
   child-levels m = let v = child-of m in record { fits = v .fits; closed = v .closed; few = omega (arith, v .new-genus, at .few) }
 
@@ -118,15 +128,26 @@ module _ (r w : ℕ) (at : Levels (suc r) w) where
       let (l, s, fits) = leaf-below (offsets d i) n in
       multiplicity-stays w v (conductor w + d) l (at .fits) s fits (omega (arith, later d i, multiplicity-le-conductor w (at .fits)))
 
+-- each level makes the conductor larger by 1 at least
+pub leaf-conductor : (r w : ℕ) → Levels r w → {v : ℕ} → List·Memᴰ v (leaves r w) → conductor w + r ≤ conductor v
+unfolding leaves
+leaf-conductor zero w at m = omega (arith, ap conductor (List·Memᴰ·eq-of-singleton m))
+leaf-conductor (suc r) w at m =
+    let (x, i, j) = joined-mem (λ x. leaves r (childWord w x)) (rightGenerators w) m in
+    let child = child-of r w at i in
+    omega (arith, leaf-conductor r (childWord w x) (child-levels r w at i) j, child .new-conductor, child .high)
+
 -- ---- a node with r + 1 levels below it
 
 module _ (r : ℕ) (n : Node) (at : NodeWithLevels (r + 1) n) where
   abbrev w : ℕ
   w = n .word
 
+  -- the same of its word
   pub levels-below : Levels (suc r) w
   levels-below = subst (λ (k : ℕ). Levels k w) (add-one r) (at .levels)
 
+  -- its first row has the offsets of the right generators
   pub first-row-offsets : rightGenerators w ≡ map (λ d. conductor w + d) (positions (firstRow n))
   first-row-offsets =
       first-row-generators w (levels-below .fits) (levels-below .closed) (omega (arith, levels-below .few))
@@ -134,9 +155,11 @@ module _ (r : ℕ) (n : Node) (at : NodeWithLevels (r + 1) n) where
 
   -- the child at the offset d of a right generator
   module _ (d : ℕ) (m : List·Memᴰ (conductor w + d) (rightGenerators w)) where
+    -- it is a node
     child-node : childNode n d ≡ nodeOf (childWord w (conductor w + d))
     child-node = ap (λ (k : Node). childNode k d) (at .node) ∙ node-child w (levels-below .fits) d (levels-below .closed) (omega (arith, levels-below .few)) m
 
+    -- its word
     pub child-word : childNode n d .word ≡ childWord w (conductor w + d)
     unfolding nodeOf
     child-word = ap (λ (k : Node). k .word) child-node
@@ -146,6 +169,7 @@ module _ (r : ℕ) (n : Node) (at : NodeWithLevels (r + 1) n) where
     unfolding nodeOf
     child-node-conductor = ap (λ (k : Node). k .conductor) child-node ∙ child-of r w levels-below m .new-conductor
 
+    -- it has r levels below it
     pub child-with-levels : NodeWithLevels r (childNode n d)
     child-with-levels = record {
       node = child-node ∙ ap nodeOf (sym child-word);
@@ -160,6 +184,7 @@ pub record Row (r : ℕ) (n : Node) (row : ℕ) : Type 0 where
   pub offsets : Offsets (n .word) row
   pub all : leaves r (n .word) ≡ branches (r - 1) (n .word) row
 
+-- so do those of its first row
 pub row-branches : (r : ℕ) (n : Node) → ¬ (r ≡ 0) → NodeWithLevels r n → {row : ℕ} → row ≡ firstRow n → Row r n row
 row-branches r n h at e =
     let lower : r ≡ r - 1 + 1 = omega arith in
@@ -178,6 +203,7 @@ pub record FirstChild (r : ℕ) (n m : Node) (bits rest : ℕ) : Type 0 where
   pub others : Offsets (n .word) rest
   pub parts : branches r (n .word) bits ≡ leaves r (m .word) ++ branches r (n .word) rest
 
+-- it is one of the children, and they begin with it
 pub first-child : (r : ℕ) (n : Node) → NodeWithLevels (r + 1) n → {m : Node} {bits at rest : ℕ} → Offsets (n .word) bits → TakenOff bits at rest → m ≡ childNode n at
     → FirstChild r n m bits rest
 first-child r n node-levels {m} {bits} {at} {rest} o low e =

@@ -6,6 +6,7 @@ pub mod ChildRows
 pub mod Nodes
 pub mod Levels
 pub mod Branches
+pub mod FirstNode
 pub mod Way
 pub mod Answers
 pub mod Cases

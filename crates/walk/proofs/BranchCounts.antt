@@ -29,6 +29,7 @@ length-children w rest fits = length-joined _ (positions rest) ∙ each (positio
     each [] = refl
     each (d ∷ l) = omega (arith, each l)
 
+-- with c the conductor of a word, at most 2 ^ (64 - c) leaves are below it
 pub leaves-bound : (r w : ℕ) → Levels r w → length (leaves r w) ≤ 2 ^ (64 - conductor w)
 unfolding descendantCount
 leaves-bound r w at =

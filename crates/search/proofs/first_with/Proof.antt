@@ -11,9 +11,9 @@ use borrow.Author.Needs.{needs}
 use Rattle.tables.specs.Nodes.{nodeOf, firstRow}
 use Rattle.tables.specs.Levels.{NodeWithLevels}
 use Rattle.tables.specs.declared.Node.{Node}
+use Rattle.tables.proofs.FirstNode.{first-node, first-node-row, first-node-levels, later-offsets}
 use Rattle.search.specs.Wanted.{wantedList}
 use Rattle.search.proofs.Possible.{Possible, none-wanted}
-use Rattle.search.proofs.FirstNode.{first-node, first-node-row, first-node-levels, later-offsets}
 use Rattle.search.proofs.FirstWith.{one-found, one-none, wanted-below}
 use Rattle.search.proofs.first_with.Statement.{statement}
 use Rattle.search.proofs.first_with.Tie as tie
@@ -82,7 +82,7 @@ first-among-requires c κs =
     let first = c .before .before in (
       subst (NodeWithLevels _) (sym (first .first-node .ensures)) (first-node-levels _ (positive first) (most first) _ (omega arith)),
       (
-        rw (word first, rest c) (later-offsets _ (omega arith) (omega arith)),
+        rw (word first, rest c) (later-offsets _ (positive first) (most first)),
         omega (arith, ap (λ (n : Node). n .conductor) (first .first-node .ensures ∙ first-node _ (positive first) (most first))),
       ),
     )

@@ -9,7 +9,7 @@ use Rattle.words.proofs.Bits.{bit-test}
 use Rattle.tables.specs.Seeds.{seedTable}
 use Rattle.tables.specs.Nodes.{nodeOf}
 use Rattle.tables.specs.declared.Node.{Node}
-use Rattle.search.proofs.Cuts.{sum-by-table, no-sum}
+use Rattle.tables.proofs.Seeds.{sum-by-table, no-sum}
 use Rattle.search.proofs.is_low_sum.Statement.{statement}
 use Rattle.search.proofs.is_low_sum.Tie as tie
 
@@ -38,13 +38,13 @@ module _ (c : tie.After-of-element) where
 returns : tie.Need-returns
 returns c =
     let found = c .before .before in
-    sym (no-sum _ _ (fits found) (high found) (omega (arith, offset found, same found)))
+    sym (no-sum _ (fits found) _ (high found) (omega (arith, offset found, same found)))
 
 returns-2 : tie.Need-returns-2
 returns-2 c =
     let found = c .before .before .before .before in
     ap not (bit-test _ _ ∙ ap₂ bit (table found) (offset found))
-    ∙ sum-by-table _ _ (fits found) (high found) (omega (arith, offset found, same found))
+    ∙ sum-by-table _ (fits found) _ (high found) (omega (arith, offset found, same found))
 
 pub is-low-sum-spec : {M : Type 1} → statement M
 is-low-sum-spec = tie.close (tie.spec (λ c κs. search needs) returns (λ c. search needs) returns-2)
