@@ -23,12 +23,11 @@ fn field(n: u64) {
     io::print_decimal(STDOUT_FILENO, n);
 }
 
-// A blank and a signed number: of the negative ones only -1 is told apart, which is that of no gaps.
+// A blank and a signed number: of a negative one, the sign and one more than its distance from -1.
 fn signed_field(n: i64) {
-    if n == -1 {
-        text(b" -1");
-    } else if n < 0 {
-        text(b" negative");
+    if n < 0 {
+        text(b" -");
+        io::print_decimal(STDOUT_FILENO, (-1 - n) as u64 + 1);
     } else {
         field(n as u64);
     }
