@@ -2,7 +2,7 @@
 use Prim.Native.Nat.{ℕ, zero, suc, _-_, _^_, _≤_, _<_}
 use mathlib.Core.Path.{_≡_, refl, sym, _∙_, ap, subst, subst₂, fun-ext}
 use mathlib.Core.Logic.{_≢_, _↔_, inl, inr}
-use mathlib.Core.Bool.{Bool, true, false}
+use mathlib.Core.Bool.{Bool, true}
 use mathlib.Core.List.{List, [], _∷_, _++_, map, List·Memᴰ, List·Memᴰ·head, List·Memᴰ·eq-of-singleton, Memᴰ·map, Memᴰ·of-map, Memᴰ·cast}
 use native.Mathlib.Omega.{arith}
 use native.Mathlib.Nat.{ℕ-set}
@@ -11,38 +11,37 @@ use Rattle.words.specs.Lists.{run, keep, Ordered}
 use Rattle.words.specs.Sets.{Set, NumericalSemigroup, GapsOf, HasGenus}
 use Rattle.words.specs.Words.{setOf, gaps, genus, wordOf, closed}
 use Rattle.words.specs.GenusList.{risings, genusList, Before, Earlier, AllOf, AllOfGenus}
-use Rattle.words.proofs.Booleans.{not-both}
-use Rattle.words.proofs.Lists.{rising-nil, rising-cons, rising-tail, run-mem, mem-run, keep-mem, mem-keep, joined-mem, mem-joined, ordered-run, ordered-one, ordered-keep, ordered-joined, ordered-map, ordered-once, ordered-unique}
-use Rattle.words.proofs.Sets.{gaps-unique, same-of-gaps}
+use Rattle.words.proofs.Lists.{Rising, rising-nil, rising-cons, rising-tail, run-mem, mem-run, keep-mem, mem-keep, joined-mem, mem-joined, ordered-run, ordered-one, ordered-keep, ordered-joined, ordered-map, ordered-once, ordered-unique}
+use Rattle.words.proofs.Sets.{gap-positive, gaps-unique, same-of-gaps}
 use Rattle.words.proofs.Words.{GapList, gaps-of, word-genus, word-lt, same-set, word-gaps, gaps-of-word, gaps-list, word-of-gaps, genus-zero}
 use Rattle.words.proofs.Counting.{gap-bound}
 use Rattle.words.proofs.Closure.{closed-iff, closed-semigroup}
 
--- ---- risings r lo holds the lists of r numbers from lo to 64, in order
+-- ---- risings r lo hi holds the lists of r numbers from lo to hi, in order
 
--- l lists r numbers from lo to 64, in order
-abbrev Chosen : ℕ → ℕ → List ℕ → Type 0
-Chosen r lo l = GapList lo l × (length l ≡ r)
+-- l lists r numbers from lo to hi, in order
+abbrev pub Chosen : ℕ → ℕ → ℕ → List ℕ → Type 0
+Chosen r lo hi l = Rising lo (suc hi) l × (length l ≡ r)
 
-risings-mem : (r lo : ℕ) {l : List ℕ} → List·Memᴰ l (risings r lo) → Chosen r lo l
+pub risings-mem : (r lo hi : ℕ) {l : List ℕ} → List·Memᴰ l (risings r lo hi) → Chosen r lo hi l
 unfolding risings
-risings-mem zero lo m = subst (Chosen 0 lo) (sym (List·Memᴰ·eq-of-singleton m)) (rising-nil, refl)
-risings-mem (suc r) lo m =
-    let (x, i, k) = joined-mem _ (run lo (65 - lo)) m in
-    let (t, j, e) = Memᴰ·of-map (λ t. x ∷ t) (risings r (suc x)) k in
-    let b = run-mem lo (65 - lo) i in
-    let h = risings-mem r (suc x) j in
-    subst (Chosen (suc r) lo) e (rising-cons (b .0) (omega arith) (h .0), ap suc (h .1))
+risings-mem zero lo hi m = subst (Chosen 0 lo hi) (sym (List·Memᴰ·eq-of-singleton m)) (rising-nil, refl)
+risings-mem (suc r) lo hi m =
+    let (x, i, k) = joined-mem _ (run lo (suc hi - lo)) m in
+    let (t, j, e) = Memᴰ·of-map (λ t. x ∷ t) (risings r (suc x) hi) k in
+    let b = run-mem lo (suc hi - lo) i in
+    let h = risings-mem r (suc x) hi j in
+    subst (Chosen (suc r) lo hi) e (rising-cons (b .0) (omega arith) (h .0), ap suc (h .1))
 
-mem-risings : (r lo : ℕ) (l : List ℕ) → Chosen r lo l → List·Memᴰ l (risings r lo)
+pub mem-risings : (r lo hi : ℕ) (l : List ℕ) → Chosen r lo hi l → List·Memᴰ l (risings r lo hi)
 unfolding risings
-mem-risings zero lo [] c = List·Memᴰ·head refl
-mem-risings zero lo (x ∷ l) c = absurd (omega arith)
-mem-risings (suc r) lo [] c = absurd (omega arith)
-mem-risings (suc r) lo (x ∷ l) c =
+mem-risings zero lo hi [] c = List·Memᴰ·head refl
+mem-risings zero lo hi (x ∷ l) c = absurd (omega arith)
+mem-risings (suc r) lo hi [] c = absurd (omega arith)
+mem-risings (suc r) lo hi (x ∷ l) c =
     let b = c .0 .within x (List·Memᴰ·head refl) in
-    mem-joined _ (run lo (65 - lo)) (mem-run lo (65 - lo) (b .0) (omega arith))
-    (Memᴰ·map (λ t. x ∷ t) (mem-risings r (suc x) l (rising-tail (c .0), omega arith)))
+    mem-joined _ (run lo (suc hi - lo)) (mem-run lo (suc hi - lo) (b .0) (omega arith))
+    (Memᴰ·map (λ t. x ∷ t) (mem-risings r (suc x) hi l (rising-tail (c .0), omega arith)))
 
 -- ---- what the genus list holds
 
@@ -60,9 +59,9 @@ word-nonzero o h e = omega (arith, o .gapped, ap genus e, genus-zero)
 pub genus-list-mem : (g : ℕ) {w : ℕ} → List·Memᴰ w (genusList g) → WordOfGenus g w
 unfolding genusList genus
 genus-list-mem g {w} m =
-    let (k, c) = keep-mem closed (map wordOf (risings g 1)) m in
-    let (l, i, e) = Memᴰ·of-map wordOf (risings g 1) k in
-    let h = risings-mem g 1 i in
+    let (k, c) = keep-mem closed (map wordOf (risings g 1 64)) m in
+    let (l, i, e) = Memᴰ·of-map wordOf (risings g 1 64) k in
+    let h = risings-mem g 1 64 i in
     record {
       fits = subst (λ (v : ℕ). v < 2 ^ 64) e (word-lt l (h .0));
       closed = c;
@@ -72,8 +71,8 @@ genus-list-mem g {w} m =
 pub mem-genus-list : (g w : ℕ) → WordOfGenus g w → List·Memᴰ w (genusList g)
 unfolding genusList genus
 mem-genus-list g w h =
-    mem-keep closed (map wordOf (risings g 1))
-    (Memᴰ·cast (sym (word-of-gaps w (h .fits))) (Memᴰ·map wordOf (mem-risings g 1 (gaps w) (gaps-list w, h .gapped))))
+    mem-keep closed (map wordOf (risings g 1 64))
+    (Memᴰ·cast (sym (word-of-gaps w (h .fits))) (Memᴰ·map wordOf (mem-risings g 1 64 (gaps w) (gaps-list w, h .gapped))))
     (h .closed)
 
 -- each word of the list is a 64-bit word of a numerical semigroup of genus g
@@ -95,12 +94,8 @@ genus-list-word g w h s (l, o, e) = mem-genus-list g w record {
 gaps-within : (S : Set) (l : List ℕ) (g : ℕ) → NumericalSemigroup S → GapsOf S l → length l ≡ g → g ≤ 32 → GapList 1 l
 gaps-within S l g s o e h = record {
   ordered = o .rising;
-  within = λ x m. (positive x (o .missed x m), let b = gap-bound S l g s o e x m in omega arith);
+  within = λ x m. (gap-positive S (s .zero-in) x (o .missed x m), let b = gap-bound S l g s o e x m in omega arith);
 }
-  where
-    positive : (x : ℕ) → S x ≡ false → 1 ≤ x
-    positive zero t = absurd (not-both (s .zero-in) t)
-    positive (suc x) t = omega arith
 
 -- each numerical semigroup of genus 32 at most is the set of a word of the list
 pub genus-list-complete : (S : Set) (g : ℕ) → NumericalSemigroup S → HasGenus S g → g ≤ 32
@@ -133,25 +128,25 @@ ordered-behind x l o = ordered-map Before Before (λ k. x ∷ k) l o (λ k m i j
 
 -- ---- the order of the genus list
 
-risings-ordered : (r lo : ℕ) → Ordered Before (risings r lo)
+pub risings-ordered : (r lo hi : ℕ) → Ordered Before (risings r lo hi)
 unfolding risings Before
-risings-ordered zero lo = ordered-one Before []
-risings-ordered (suc r) lo =
-    ordered-joined _<_ Before _ (run lo (65 - lo)) (ordered-run lo (65 - lo))
-    (λ x m. ordered-behind x (risings r (suc x)) (risings-ordered r (suc x)))
-    (λ x y i j h k l m n. first h (Memᴰ·of-map (λ t. x ∷ t) (risings r (suc x)) m) (Memᴰ·of-map (λ t. y ∷ t) (risings r (suc y)) n))
+risings-ordered zero lo hi = ordered-one Before []
+risings-ordered (suc r) lo hi =
+    ordered-joined _<_ Before _ (run lo (suc hi - lo)) (ordered-run lo (suc hi - lo))
+    (λ x m. ordered-behind x (risings r (suc x) hi) (risings-ordered r (suc x) hi))
+    (λ x y i j h k l m n. first h (Memᴰ·of-map (λ t. x ∷ t) (risings r (suc x) hi) m) (Memᴰ·of-map (λ t. y ∷ t) (risings r (suc y) hi) n))
   where
-    first : {x y : ℕ} {k l : List ℕ} → x < y → (t : List ℕ) × List·Memᴰ t (risings r (suc x)) × ((x ∷ t) ≡ k)
-        → (t : List ℕ) × List·Memᴰ t (risings r (suc y)) × ((y ∷ t) ≡ l) → Before k l
+    first : {x y : ℕ} {k l : List ℕ} → x < y → (t : List ℕ) × List·Memᴰ t (risings r (suc x) hi) × ((x ∷ t) ≡ k)
+        → (t : List ℕ) × List·Memᴰ t (risings r (suc y) hi) × ((y ∷ t) ≡ l) → Before k l
     first {x} {y} h (t, m, e) (u, n, f) = subst₂ Before e f (inl h)
 
 -- the genus list is in list order, each word before all later ones
 pub genus-list-ordered : (g : ℕ) → Ordered Earlier (genusList g)
 unfolding genusList
 genus-list-ordered g =
-    ordered-keep Earlier closed (map wordOf (risings g 1))
-    (ordered-map Before Earlier wordOf (risings g 1) (risings-ordered g 1)
-    (λ k l m n b. subst₂ Before (sym (gaps-of-word k (risings-mem g 1 m .0))) (sym (gaps-of-word l (risings-mem g 1 n .0))) b))
+    ordered-keep Earlier closed (map wordOf (risings g 1 64))
+    (ordered-map Before Earlier wordOf (risings g 1 64) (risings-ordered g 1 64)
+    (λ k l m n b. subst₂ Before (sym (gaps-of-word k (risings-mem g 1 64 m .0))) (sym (gaps-of-word l (risings-mem g 1 64 n .0))) b))
 
 pub earlier-asym : (v w : ℕ) → Earlier v w → Earlier w v → ⊥
 earlier-asym v w = before-asym (gaps v) (gaps w)

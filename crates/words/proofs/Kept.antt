@@ -1,7 +1,7 @@
 -- What tests keep of a list: tests that agree on it, that all or none pass, and the parts of a list that two tests keep. Assumes nothing.
 use mathlib.Core.Path.{_≡_, refl, sym, _∙_, ap, ap₂}
 use mathlib.Core.Bool.{Bool, true, false, _&&_, _||_, and-false}
-use mathlib.Core.List.{List, [], _∷_, _++_, List·Memᴰ, List·Memᴰ·head, List·Memᴰ·tail}
+use mathlib.Core.List.{List, [], _∷_, _++_, map, List·Memᴰ, List·Memᴰ·head, List·Memᴰ·tail}
 use Prim.Native.Nat.{ℕ}
 use lib.Dec.{eqb}
 use borrow.Author.Tests.{eqb-true}
@@ -21,6 +21,12 @@ module _ {A : Type 0} where
   unfolding keep
   keep-both p q [] = refl
   keep-both p q (x ∷ l) = by-value (q x) (λ e. rw e (ap (keepIf (p x) x) (keep-both p q l))) (λ e. rw e (keep-both p q l))
+
+  -- of f of each, what the test keeps
+  pub keep-map : {B : Type 0} (p : A → Bool) (f : B → A) (l : List B) → keep p (map f l) ≡ map f (keep (λ x. p (f x)) l)
+  unfolding keep
+  keep-map p f [] = refl
+  keep-map p f (x ∷ l) = by-value (p (f x)) (λ e. rw e (ap (λ (k : List A). f x ∷ k) (keep-map p f l))) (λ e. rw e (keep-map p f l))
 
   -- where all of a list that pass p pass q, p keeps of it what p keeps of those that pass q
   pub keep-within : (p q : A → Bool) (l : List A) → ((x : A) → List·Memᴰ x l → p x ≡ true → q x ≡ true) → keep p l ≡ keep p (keep q l)

@@ -156,6 +156,12 @@ module _ {A : Type 0} where
   mem-every p [] h = refl
   mem-every p (y ∷ l) h = and-eq-true-iff (p y) (every p l) .1 (h y (List·Memᴰ·head refl), mem-every p l (λ x m. h x (List·Memᴰ·tail m)))
 
+  -- tests that agree on each of l
+  pub every-same : (p q : A → Bool) (l : List A) → ((x : A) → List·Memᴰ x l → p x ≡ q x) → every p l ≡ every q l
+  unfolding every
+  every-same p q [] h = refl
+  every-same p q (x ∷ l) h = ap₂ _&&_ (h x (List·Memᴰ·head refl)) (every-same p q l (λ y m. h y (List·Memᴰ·tail m)))
+
   -- where not every one passes, one fails
   pub every-false : (p : A → Bool) (l : List A) → every p l ≡ false → (x : A) × List·Memᴰ x l × (p x ≡ false)
   unfolding every

@@ -8,14 +8,14 @@ use Rattle.words.specs.Lists.{run, keep, joined, begins, Ordered}
 use Rattle.words.specs.Sets.{Set, NumericalSemigroup, GapsOf, HasGenus}
 use Rattle.words.specs.Words.{setOf, gaps, wordOf, closed}
 
--- all rising lists of r numbers, each at least lo and at most 64, in list order
-unfoldable pub risings : ℕ → ℕ → List (List ℕ)
-risings zero lo = [] ∷ []
-risings (suc r) lo = joined (λ x. map (λ l. x ∷ l) (risings r (suc x))) (run lo (65 - lo))
+-- all rising lists of r numbers, each at least lo and at most hi, in list order
+unfoldable pub risings : ℕ → ℕ → ℕ → List (List ℕ)
+risings zero lo hi = [] ∷ []
+risings (suc r) lo hi = joined (λ x. map (λ l. x ∷ l) (risings r (suc x) hi)) (run lo (suc hi - lo))
 
 -- of the gap sets of g numbers from 1 to 64, in list order, the words of those that are closed
 unfoldable pub genusList : ℕ → List ℕ
-genusList g = keep closed (map wordOf (risings g 1))
+genusList g = keep closed (map wordOf (risings g 1 64))
 
 -- the words of the genus list of g whose smallest gaps are exactly the gaps of w
 unfoldable pub descendants : ℕ → ℕ → List ℕ
