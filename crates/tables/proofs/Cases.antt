@@ -3,15 +3,20 @@ use Prim.Native.Nat.{ℕ}
 use mathlib.Core.Path.{_≡_, refl}
 use mathlib.Core.Bool.{true}
 use mathlib.Core.List.{[], _∷_, map}
+use native.Mathlib.Omega.{arith}
 use Rattle.words.specs.Lists.{run, keep, keepIf, every, joined, lastOr}
 use Rattle.words.specs.Sets.{sumOfTwo}
 use Rattle.words.specs.Words.{bit, setOf, gaps, genus, digit, largestGap, conductor, closed, childWord, ofBits}
 use Rattle.words.specs.Elements.{elementsBelow, elementAt, multiplicity, generator, rightGenerators}
+use Rattle.words.specs.GenusList.{risings}
+use Rattle.words.specs.GapLists.{setMissing, closedGaps, extensions}
 use Rattle.words.specs.Answers.{refused, given, askWord}
 use Rattle.tables.specs.Seeds.{leftAfter, seed, row, seedBits, seedTable}
 use Rattle.tables.specs.Child.{struck, struckBits, padded, lastThreeSet, childBits}
 use Rattle.tables.specs.Nodes.{nodeOf}
-use Rattle.tables.specs.Answers.{nodeAnswer, tableOf, childOf}
+use Rattle.tables.specs.Grandchildren.{grandchildCount, pairs}
+use Rattle.tables.specs.Answers.{nodeAnswer, tableOf, childOf, grandchildrenOf}
+use Rattle.tables.proofs.GrandchildCounts.{first-grandchildren}
 
 -- the tables of the words 0, 1, 5, 111, 91 and 13, and of the word of the gaps 1 to 33
 pub known-tables : map tableOf (0 ∷ 1 ∷ 5 ∷ 111 ∷ 91 ∷ 13 ∷ 8589934591 ∷ [])
@@ -44,3 +49,15 @@ known-children = (refl, refl)
 pub no-child-at-32 : (e : ℕ) → childOf 6148914691236517205 e ≡ refused 3
 unfolding run keep keepIf every bit setOf gaps genus closed sumOfTwo askWord childOf
 no-child-at-32 e = refl
+
+-- the grandchildren of the words 91, 3 and 0, and at genus 32 of the word of the generators 2 and 65, which has the one without 65 and 67; the
+-- words 13 and that of the gaps 1 to 33 are refused
+pub known-grandchildren : map grandchildrenOf (91 ∷ 3 ∷ 0 ∷ 6148914691236517205 ∷ 13 ∷ 8589934591 ∷ [])
+    ≡ given 3 ∷ given 6 ∷ given 2 ∷ given 1 ∷ refused 2 ∷ refused 1 ∷ []
+unfolding run keep keepIf every joined bit setOf gaps genus lastOr largestGap conductor closed sumOfTwo risings setMissing closedGaps extensions grandchildCount askWord grandchildrenOf
+known-grandchildren = refl
+
+-- and those of the word of the gaps 1 to 32
+pub known-first-grandchildren : grandchildrenOf 4294967295 ≡ given 531
+unfolding pairs
+known-first-grandchildren = first-grandchildren 33 (omega arith) (omega arith)

@@ -1,4 +1,9 @@
 pub mod Seeds
+pub mod Orders
+pub mod Pairs
+pub mod SecondRow
+pub mod ChildGenerators
+pub mod Ordinary
 pub mod FirstRow
 pub mod Raking
 pub mod ChildTable
@@ -7,6 +12,9 @@ pub mod Nodes
 pub mod Levels
 pub mod Branches
 pub mod FirstNode
+pub mod ChildFirstRow
+pub mod GrandchildLists
+pub mod GrandchildCounts
 pub mod Way
 pub mod Answers
 pub mod Cases

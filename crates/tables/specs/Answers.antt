@@ -7,6 +7,7 @@ use Rattle.words.specs.Elements.{generator}
 use Rattle.words.specs.Answers.{Answer, refused, given, numberOf, ask, askWord}
 use Rattle.tables.specs.Seeds.{seedTable}
 use Rattle.tables.specs.Nodes.{nodeOf}
+use Rattle.tables.specs.Grandchildren.{grandchildCount}
 use Rattle.tables.specs.declared.Node.{Node}
 use Rattle.tables.specs.declared.NodeAnswer.{NodeAnswer}
 use Rattle.tables.specs.declared.NodeAnswer.the-variants as N
@@ -28,3 +29,7 @@ tableOf w = askWord refused w (given (seedTable w))
 unfoldable pub childOf : ℕ → ℕ → Answer ℕ
 childOf w e =
     askWord refused w (ask (leb (genus w + 1) 32) (refused 3) (ask (leb (conductor w) e && generator w e) (refused 5) (given (childWord w e))))
+
+-- the number of grandchildren of a word, of genus 31 and 32 too: questions 1 and 2
+unfoldable pub grandchildrenOf : ℕ → Answer ℕ
+grandchildrenOf w = askWord refused w (given (grandchildCount w))

@@ -3,4 +3,5 @@ pub mod Child
 pub mod Nodes
 pub mod Levels
 pub mod Branches
+pub mod Grandchildren
 pub mod Answers

@@ -1,6 +1,6 @@
--- A semigroup under way: its word, table and conductor together, its child, its first row, the lowest of some offsets, and the way to a
+-- A semigroup under way: its word, table and conductor together, its child, its rows 0 and 1, the lowest of some offsets, and the way to a
 -- descendant. Assumes nothing: these are definitions.
-use Prim.Native.Nat.{ℕ, _+_, _-_, _%_, _^_}
+use Prim.Native.Nat.{ℕ, _+_, _-_, _/_, _%_, _^_}
 use mathlib.Core.Bool.{cond}
 use lib.Bits.{bitOr}
 use lib.Dec.{eqb, leb, ltb}
@@ -8,7 +8,7 @@ use lib.ListN.{getD}
 use Rattle.words.specs.Lists.{keep}
 use Rattle.words.specs.Words.{gaps, conductor}
 use Rattle.words.specs.Positions.{positions}
-use Rattle.words.specs.Elements.{multiplicity}
+use Rattle.words.specs.Elements.{elementAt, multiplicity}
 use Rattle.tables.specs.Seeds.{seedTable}
 use Rattle.tables.specs.Child.{childTable}
 use Rattle.tables.specs.declared.Node.{Node}
@@ -37,6 +37,10 @@ childNode n d =
 -- row 0 of a node's table as a number: it has as many bits as the multiplicity
 unfoldable pub firstRow : Node → ℕ
 firstRow n = n .table % 2 ^ multiplicity (n .word)
+
+-- row 1 of a node's table as a number: behind row 0 it has as many bits as there are numbers from the multiplicity to the next element
+unfoldable pub secondRow : Node → ℕ
+secondRow n = n .table / 2 ^ multiplicity (n .word) % 2 ^ (elementAt (n .word) 2 - multiplicity (n .word))
 
 -- the lowest of some offsets, which are the bits of a number of 64 bits, and 64 where there are none
 unfoldable pub lowestOffset : ℕ → ℕ

@@ -1,12 +1,14 @@
 // Seed tables: a semigroup under way, which carries its word, table and conductor and gives its own child, and the calls on words.
-ghost use Prim.Native.Nat.{_-_, _^_};
+ghost use Prim.Native.Nat.{_-_, _^_, _≤_};
 ghost use mathlib.Core.Path.{_≡_};
 ghost use Rattle.words.specs.Answers.{Accepted, answered};
 ghost use Rattle.tables.specs.Child.{raked};
-ghost use Rattle.tables.specs.Nodes.{nodeOf, childNode, firstRow, lowestOffset, nextOffset};
+ghost use Rattle.tables.specs.Nodes.{nodeOf, childNode, firstRow, secondRow, lowestOffset, nextOffset};
 ghost use Rattle.tables.specs.Levels.{NodeWithLevels};
-ghost use Rattle.tables.specs.Answers.{noded, nodeAnswer, tableOf, childOf};
+ghost use Rattle.tables.specs.Grandchildren.{pairs, grandchildrenAt};
+ghost use Rattle.tables.specs.Answers.{noded, nodeAnswer, tableOf, childOf, grandchildrenOf};
 use words::Element;
+use words::Index;
 use words::LookAnswer;
 use words::NumberAnswer;
 use words::Offset;
@@ -36,6 +38,14 @@ fn rake(word: u64, table: u64, d: u64) -> u64
         s = s & moved;
     }
     s
+}
+
+// The number of pairs among n.
+fn pairs_among(n: u64) -> u64
+    requires { ⌜ n ≤ 65 ⌝ }
+    ensures { λ r. ⌜ r ≡ pairs n ⌝ }
+{
+    (n * n - n) / 2
 }
 
 impl Node {
@@ -84,6 +94,36 @@ impl Node {
     {
         let w = self.word;
         self.table & (w ^ std::num::wrapping_add_u64(w, 1))
+    }
+
+    // Row 1 of the table: the offsets of the order-one seeds, as bits. It has as many bits as the word, moved down by the multiplicity,
+    // has low bits that differ from those of the next number.
+    pub fn second_row(self) -> u64
+        ensures { λ r. ⌜ r ≡ secondRow self ⌝ }
+    {
+        let m = words::multiplicity_of(self.word);
+        if 63 < m {
+            return 0;
+        }
+        let later = self.word >> m;
+        (self.table >> m) & (later ^ (later + 1))
+    }
+
+    // The number of grandchildren, from rows 0 and 1 alone: where k is at least 2, each two generators not below the conductor make one, and
+    // each of them that is an order-one seed too makes one more. The word 0 and the words with k below 2 have no row 1.
+    pub fn grandchildren(self) -> u64
+        ensures { λ r. ⌜ r ≡ grandchildrenAt self ⌝ }
+    {
+        if self.word == 0 {
+            return 2;
+        }
+        let k = Index::of_conductor(self.conductor, words::genus_of(self.word));
+        if k.0 < 2 {
+            return pairs_among(words::multiplicity_of(self.word)) + 3;
+        }
+        let first = self.first_row();
+        let both = first & self.second_row();
+        pairs_among(u64::count_ones(first) as u64) + u64::count_ones(both) as u64
     }
 
     // The offset of the word's first gap not below the conductor.
@@ -197,5 +237,17 @@ pub fn child(word: u64, element: Element) -> NumberAnswer
             }
             removed(reached(word), element)
         }
+    }
+}
+
+// The number of grandchildren of a word, the semigroups with two gaps more whose smallest gaps are the word's: the refusals of a look. At genus
+// 31 and 32 it is given too, although the grandchildren have no words.
+pub fn grandchildren(word: u64) -> NumberAnswer
+    ensures { λ r. ⌜ answered r ≡ grandchildrenOf word ⌝ }
+{
+    let answer = node_of(word);
+    match answer {
+        NodeAnswer::Refused(r) => NumberAnswer::Refused(r),
+        NodeAnswer::Given(n) => NumberAnswer::Given(n.grandchildren()),
     }
 }

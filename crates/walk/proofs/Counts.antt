@@ -1,6 +1,6 @@
 -- What the fresh and the count call answer, by the questions. Assumes nothing.
 use Prim.Native.Nat.{ℕ, _+_, _-_, _^_, _≤_, _<_}
-use mathlib.Core.Path.{_≡_, refl, _∙_, ap}
+use mathlib.Core.Path.{_≡_, refl, sym, _∙_, ap}
 use mathlib.Core.Bool.{Bool, true, false}
 use mathlib.Core.List.{List}
 use native.Mathlib.Omega.{arith}
@@ -15,6 +15,8 @@ use Rattle.words.proofs.Answers.{asked}
 use Rattle.words.proofs.First.{genus-list-first}
 use Rattle.words.specs.Tree.{leaves}
 use Rattle.words.proofs.Leaves.{descendants-leaves}
+use Rattle.tables.specs.Answers.{grandchildrenOf}
+use Rattle.tables.proofs.GrandchildCounts.{count-of-descendants}
 use Rattle.windows.specs.Windows.{windowList}
 use Rattle.windows.specs.declared.First.{First}
 use Rattle.windows.specs.Answers.{firstIn, firstOf}
@@ -55,3 +57,8 @@ module _ (w g : ℕ) (h : Accepted w) where
       let sum : g ≡ genus w + (g - genus w) = omega arith in
       count-answers w g h l ∙ ap (λ (n : ℕ). given (length (descendants n w))) sum
       ∙ ap (λ (k : List ℕ). given (length k)) (descendants-leaves (g - genus w) w fits (h .closed) (omega arith))
+
+-- up to genus 30, the words two genera on are the grandchildren
+pub count-grandchildren : (w : ℕ) → Accepted w → genus w ≤ 30 → countOf w (genus w + 2) ≡ grandchildrenOf w
+unfolding grandchildrenOf
+count-grandchildren w h few = count-answers w (genus w + 2) h (omega arith) ∙ sym (asked refused w _ h ∙ ap given (count-of-descendants w few))
