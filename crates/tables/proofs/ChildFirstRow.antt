@@ -37,15 +37,18 @@ module _ (w : ℕ) (fits : w < 2 ^ 64) (two : 2 ≤ conductor w - genus w) where
     abbrev v : ℕ
     v = childWord w (conductor w + d)
 
+    -- the child at offset d
     child : Child w x
     child = child-at w x fits c few g
 
+    -- it has the multiplicity of w
     same-multiplicity : multiplicity v ≡ m
     same-multiplicity =
         multiplicity-stays w v x [] fits (sym (child .new-gaps)) (child .fits) (omega (arith, multiplicity-below w fits x (child .high) two))
 
-    -- the child's generators not below its conductor
-    child-generator : (y : ℕ) → x < y → generator v y ≡ (generator w y || (eqb y (x + m) && orderOneSeed w x))
+    -- its generators not below its conductor: the later ones of w, and x + m where x is an order-one seed
+    pub child-generator : (y : ℕ) → conductor w + d < y
+        → generator (childWord w (conductor w + d)) y ≡ (generator w y || (eqb y (conductor w + d + multiplicity w) && orderOneSeed w (conductor w + d)))
     child-generator y h =
         let same : setOf v ≡ without x (setOf w) = fun-ext (child-set w x (omega (arith, conductor-pos w)) (element-from-conductor w fits x (child .high))) in
         generator-from-conductor v (child .fits) y (omega (arith, child .new-conductor)) ∙ ap (λ (S : Set). not (sumOfTwo S y)) same

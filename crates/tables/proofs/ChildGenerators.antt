@@ -53,7 +53,7 @@ module _ (w : ℕ) (fits : w < 2 ^ 64) (x : ℕ) (high : conductor w ≤ x) wher
           ]
         ])
 
-  -- where k is at least 2
+  -- where k is at least 2, the multiplicity is below the conductor
   module _ (two : 2 ≤ conductor w - genus w) where
     pub multiplicity-below : multiplicity w < conductor w
     multiplicity-below = omega (arith, multiplicity-element w fits, element-rises w fits 1, element-le-conductor w fits 2 two)

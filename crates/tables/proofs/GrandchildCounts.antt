@@ -5,7 +5,7 @@ use mathlib.Core.Logic.{_≢_, _⊎_, inl, inr, _↔_, ⊎-elim}
 use mathlib.Core.Bool.{Bool, true, false, not, _||_, _&&_, or-true, and-eq-true-iff}
 use mathlib.Core.List.{List, [], _∷_, List·Memᴰ, List·Memᴰ·head, List·Memᴰ·eq-of-singleton}
 use native.Mathlib.Omega.{arith}
-use native.Mathlib.Nat.{lt-of-le-of-lt, mod-le}
+use native.Mathlib.Nat.{lt-of-le-of-lt}
 use native.Mathlib.Decide.{decLt, ℕ-discrete}
 use lib.Bits.{bitAnd, and-le-l}
 use lib.Count.{ones}
@@ -30,7 +30,7 @@ use Rattle.words.proofs.GenusList.{word-nonzero}
 use Rattle.words.proofs.Answers.{asked}
 use Rattle.words.proofs.First.{first-of-genus, first-conductor, first-multiplicity}
 use Rattle.words.proofs.GapLists.{gap-lists-unique, extensions-all, extensions-count}
-use Rattle.tables.specs.Seeds.{orderOneSeed, seedTable}
+use Rattle.tables.specs.Seeds.{orderOneSeed}
 use Rattle.tables.specs.Nodes.{nodeOf, firstRow, secondRow}
 use Rattle.tables.specs.Grandchildren.{grandchildCount, pairs, countByGenerators, grandchildrenAt}
 use Rattle.tables.specs.Answers.{grandchildrenOf}
@@ -38,20 +38,20 @@ use Rattle.tables.specs.declared.Node.{Node}
 use Rattle.tables.proofs.SecondRow.{second-row-bit}
 use Rattle.tables.proofs.ChildGenerators.{generator-without}
 use Rattle.tables.proofs.Ordinary.{ordinary-conductor, ordinary-generators, newFrom, none-of, none-without}
-use Rattle.tables.proofs.Nodes.{first-row-generators, table-fits}
+use Rattle.tables.proofs.Nodes.{first-row-generators, first-row-fits, first-row-count}
 use Rattle.tables.proofs.GrandchildLists.{by-new-generators}
 
 -- ---- which number it is
 
 -- it is the length of any list of all gap lists of the numerical semigroups with two gaps more whose smallest gaps are those of w
-pub count-of-all : (w : ℕ) (l : List (List ℕ)) → AllGapLists (Extends 2 w) l → grandchildCount w ≡ length l
+pub grandchildren-of-all : (w : ℕ) (l : List (List ℕ)) → AllGapLists (Extends 2 w) l → grandchildCount w ≡ length l
 unfolding grandchildCount
-count-of-all w l all = ap length (gap-lists-unique (Extends 2 w) (extensions 2 w) l (extensions-all 2 w) all)
+grandchildren-of-all w l all = ap length (gap-lists-unique (Extends 2 w) (extensions 2 w) l (extensions-all 2 w) all)
 
 -- up to genus 30 these are the descendants two genera on
-pub count-of-descendants : (w : ℕ) → genus w ≤ 30 → grandchildCount w ≡ descendantCount (genus w + 2) w
+pub grandchildren-descendants : (w : ℕ) → genus w ≤ 30 → grandchildCount w ≡ descendantCount (genus w + 2) w
 unfolding grandchildCount
-count-of-descendants w few = extensions-count 2 w (omega arith)
+grandchildren-descendants w few = extensions-count 2 w (omega arith)
 
 -- ---- where k is at least 2
 
@@ -61,17 +61,6 @@ unfolding sumOver keep keepIf
 ones-kept p f [] = refl
 ones-kept p f (x ∷ l) = by-value (p x) (λ e. rw e (omega (arith, ones-kept p f l))) (λ e. rw e (omega (arith, ones-kept p f l)))
 
--- row 0 is a number of 64 bits
-first-row-fits : (w : ℕ) → w < 2 ^ 64 → closed w ≡ true → genus w ≤ 32 → firstRow (nodeOf w) < 2 ^ 64
-unfolding nodeOf firstRow
-first-row-fits w fits c few = lt-of-le-of-lt (mod-le (seedTable w) _) (table-fits w fits c few)
-
--- its ones are the generators not below the conductor
-first-row-count : (w : ℕ) → w < 2 ^ 64 → closed w ≡ true → genus w ≤ 32 → length (rightGenerators w) ≡ ones (firstRow (nodeOf w))
-first-row-count w fits c few =
-    let row = firstRow (nodeOf w) in
-    ap length (first-row-generators w fits c few) ∙ length-map (positions row) (λ d. conductor w + d) ∙ positions-ones row (first-row-fits w fits c few)
-
 module _ (w : ℕ) (fits : w < 2 ^ 64) (c : closed w ≡ true) (two : 2 ≤ conductor w - genus w) where
   abbrev m : ℕ
   m = multiplicity w
@@ -80,6 +69,7 @@ module _ (w : ℕ) (fits : w < 2 ^ 64) (c : closed w ≡ true) (two : 2 ≤ cond
   abbrev seedPlus : ℕ → List ℕ
   seedPlus x = keep (λ y. orderOneSeed w x) ((x + m) ∷ [])
 
+  -- without x, the generators above it are those of w and this one
   seed-made : (x y : ℕ) → conductor w ≤ x → x < y → (sumOfTwo (without x (setOf w)) y ≡ false) ↔ ((generator w y ≡ true) ⊎ List·Memᴰ y (seedPlus x))
   seed-made x y high less = (
     (λ e. let t = sym rule ∙ ap not e in
@@ -96,9 +86,9 @@ module _ (w : ℕ) (fits : w < 2 ^ 64) (c : closed w ≡ true) (two : 2 ≤ cond
       rule = generator-without w fits x high two y (omega arith)
 
   -- n (n - 1) / 2 and the order-one seeds among the n generators
-  pub count-by-generators : grandchildCount w ≡ countByGenerators w
+  pub grandchildren-by-generators : grandchildCount w ≡ countByGenerators w
   unfolding countByGenerators
-  count-by-generators =
+  grandchildren-by-generators =
       by-new-generators w fits c seedPlus (λ x. ordered-keep _<_ _ ((x + m) ∷ []) (ordered-one _<_ (x + m)))
       (λ x y i. omega (arith, List·Memᴰ·eq-of-singleton (keep-mem _ ((x + m) ∷ []) i .0))) seed-made
       ∙ ap (λ (n : ℕ). pairs (length (rightGenerators w)) + n) (ones-kept (orderOneSeed w) (λ x. x + m) (rightGenerators w))
@@ -118,6 +108,7 @@ module _ (w : ℕ) (fits : w < 2 ^ 64) (c : closed w ≡ true) (two : 2 ≤ cond
         keep-same _ (bit next) (positions row) (λ d i. sym (second-row-bit w fits two d))
         ∙ keep-both (bit next) (bit row) (run 0 64) ∙ keep-same _ _ (run 0 64) (λ d i. sym (bit-and row next d))
 
+    -- so that there are as many
     both-count : length (keep (orderOneSeed w) (rightGenerators w)) ≡ ones (bitAnd row next)
     both-count =
         ap (λ (l : List ℕ). length (keep (orderOneSeed w) l)) (first-row-generators w fits c few)
@@ -127,9 +118,9 @@ module _ (w : ℕ) (fits : w < 2 ^ 64) (c : closed w ≡ true) (two : 2 ≤ cond
         ∙ positions-ones (bitAnd row next) (lt-of-le-of-lt (and-le-l row next) (first-row-fits w fits c few))
 
     -- so that rows 0 and 1 tell that number
-    pub count-by-rows : countByGenerators w ≡ pairs (ones (firstRow (nodeOf w))) + ones (bitAnd (firstRow (nodeOf w)) (secondRow (nodeOf w)))
+    pub grandchildren-by-rows : countByGenerators w ≡ pairs (ones (firstRow (nodeOf w))) + ones (bitAnd (firstRow (nodeOf w)) (secondRow (nodeOf w)))
     unfolding countByGenerators
-    count-by-rows = ap₂ (λ (a b : ℕ). pairs a + b) (first-row-count w fits c few) both-count
+    grandchildren-by-rows = ap₂ (λ (a b : ℕ). pairs a + b) (first-row-count w fits c few) both-count
 
 -- ---- where k is 1
 
@@ -140,8 +131,8 @@ two-and-one a n = omega (arith, sum-none (λ x. a + 2 - x) (run (suc (suc a)) n)
 
 module _ (w : ℕ) (fits : w < 2 ^ 64) (c : closed w ≡ true) (ordinary : conductor w ≡ multiplicity w) where
   -- each two of the m generators, and the new ones
-  count-ordinary : let m = multiplicity w in grandchildCount w ≡ pairs m + sumOver (λ x. m + 2 - x) (run m m)
-  count-ordinary =
+  ordinary-count : let m = multiplicity w in grandchildCount w ≡ pairs m + sumOver (λ x. m + 2 - x) (run m m)
+  ordinary-count =
       by-new-generators w fits c (newFrom w) (λ x. ordered-run _ _) (λ x y i. run-mem _ _ i .0)
       (λ x y high less. (none-of w fits ordinary x y high less, none-without w fits ordinary x y high less))
       ∙ ap (λ (l : List ℕ). pairs (length l) + sumOver (λ x. length (newFrom w x)) l) (ordinary-generators w fits ordinary)
@@ -149,11 +140,11 @@ module _ (w : ℕ) (fits : w < 2 ^ 64) (c : closed w ≡ true) (ordinary : condu
       (sum-same _ _ (run (multiplicity w) (multiplicity w)) (λ x i. length-run (x + multiplicity w) (multiplicity w + 2 - x)))
 
   -- without m both 2 m and 2 m + 1 are new, without m + 1 the latter
-  pub count-first : w ≢ 0 → grandchildCount w ≡ pairs (multiplicity w) + 3
-  count-first nonzero =
+  pub grandchildren-ordinary : w ≢ 0 → grandchildCount w ≡ pairs (multiplicity w) + 3
+  grandchildren-ordinary nonzero =
       let least = multiplicity-from-two w fits c nonzero in
       let size : suc (suc (multiplicity w - 2)) ≡ multiplicity w = omega arith in
-      count-ordinary ∙ ap (λ (n : ℕ). pairs (multiplicity w) + n)
+      ordinary-count ∙ ap (λ (n : ℕ). pairs (multiplicity w) + n)
       (ap (λ (n : ℕ). sumOver (λ x. multiplicity w + 2 - x) (run (multiplicity w) n)) (sym size) ∙ two-and-one (multiplicity w) (multiplicity w - 2))
 
 -- ---- as it is read off a node, by the cases of the definition
@@ -173,20 +164,20 @@ module _ (n : Node) where
   at-rows e l = simp (ne-eqb (n .word) 0 e, le-ltb (n .conductor - genus (n .word)) 2 l)
 
 -- the word 0 has two grandchildren
-pub count-zero : grandchildCount 0 ≡ 2
+pub grandchildren-zero : grandchildCount 0 ≡ 2
 unfolding run keep keepIf every joined bit setOf gaps genus lastOr largestGap conductor sumOfTwo risings setMissing closedGaps extensions grandchildCount
-count-zero = refl
+grandchildren-zero = refl
 
 -- what is read off the node of an accepted word is the number of its grandchildren
 pub grandchildren-at : (w : ℕ) → w < 2 ^ 64 → Accepted w → grandchildrenAt (nodeOf w) ≡ grandchildCount w
 unfolding nodeOf
 grandchildren-at w fits h = elim (ℕ-discrete w 0) [
-  | yes zero ↦ at-zero (nodeOf w) zero ∙ sym (ap grandchildCount zero ∙ count-zero)
+  | yes zero ↦ at-zero (nodeOf w) zero ∙ sym (ap grandchildCount zero ∙ grandchildren-zero)
   | no nonzero ↦ elim (decLt (conductor w - genus w) 2) [
-    | yes low ↦ at-first (nodeOf w) nonzero low ∙ sym (count-first w fits (h .closed) (ordinary-conductor w fits low) nonzero)
+    | yes low ↦ at-first (nodeOf w) nonzero low ∙ sym (grandchildren-ordinary w fits (h .closed) (ordinary-conductor w fits low) nonzero)
     | no high ↦
         let two : 2 ≤ conductor w - genus w = omega arith in
-        at-rows (nodeOf w) nonzero two ∙ sym (count-by-generators w fits (h .closed) two ∙ count-by-rows w fits (h .closed) two (h .few))
+        at-rows (nodeOf w) nonzero two ∙ sym (grandchildren-by-generators w fits (h .closed) two ∙ grandchildren-by-rows w fits (h .closed) two (h .few))
   ]
 ]
 
@@ -198,5 +189,5 @@ first-grandchildren m two few =
     let o = first-of-genus m (omega arith) (omega arith) in
     let least = first-multiplicity m (omega arith) (omega arith) in
     asked refused w _ record { closed = o .closed; few = omega (arith, o .gapped) }
-    ∙ ap given (count-first w (o .fits) (o .closed) (first-conductor m (omega arith) (omega arith) ∙ sym least) (word-nonzero o (omega arith))
+    ∙ ap given (grandchildren-ordinary w (o .fits) (o .closed) (first-conductor m (omega arith) (omega arith) ∙ sym least) (word-nonzero o (omega arith))
     ∙ ap (λ (n : ℕ). pairs n + 3) least)

@@ -22,23 +22,25 @@ use Rattle.words.proofs.GapLists.{extensions-all, two-more-iff}
 use Rattle.tables.specs.Grandchildren.{grandchildCount, pairs}
 use Rattle.tables.proofs.Pairs.{later-pairs}
 
--- new x has the generators above x that are none with x: they are not below x + m
+-- new x lists the numbers above x that are generators without x and were none: none of them is below x + m
 module _ (w : ℕ) (fits : w < 2 ^ 64) (c : closed w ≡ true) (new : ℕ → List ℕ) (rising : (x : ℕ) → Ordered _<_ (new x))
     (beyond : (x y : ℕ) → List·Memᴰ y (new x) → x + multiplicity w ≤ y)
     (made : (x y : ℕ) → conductor w ≤ x → x < y → (sumOfTwo (without x (setOf w)) y ≡ false) ↔ ((generator w y ≡ true) ⊎ List·Memᴰ y (new x))) where
+  -- the generators not below the conductor
   abbrev right : List ℕ
   right = rightGenerators w
 
   -- the generators above x without x
-  abbrev above : ℕ → List ℕ
-  above x = keep (ltb x) right ++ new x
+  abbrev nextGenerators : ℕ → List ℕ
+  nextGenerators x = keep (ltb x) right ++ new x
 
   -- the gaps of w and two more
   abbrev two : ℕ → ℕ → List ℕ
   two x y = gaps w ++ x ∷ y ∷ []
 
-  above-mem : {x y : ℕ} → List·Memᴰ x right → List·Memᴰ y (above x) → (x < y) × (sumOfTwo (without x (setOf w)) y ≡ false)
-  above-mem {x} {y} i j =
+  -- they are the numbers above x that are no sum of two without x
+  next-mem : {x y : ℕ} → List·Memᴰ x right → List·Memᴰ y (nextGenerators x) → (x < y) × (sumOfTwo (without x (setOf w)) y ≡ false)
+  next-mem {x} {y} i j =
       let (high, g) = right-generators-mem w fits i in
       ⊎-elim
       (λ k. let (l, t) = keep-mem (ltb x) right k in
@@ -47,49 +49,52 @@ module _ (w : ℕ) (fits : w < 2 ^ 64) (c : closed w ≡ true) (new : ℕ → Li
       (λ k. let less : x < y = omega (arith, beyond x y k, multiplicity-pos w fits) in (less, made x y high less .1 (inr k)))
       (List·Memᴰ·append-cases (keep (ltb x) right) j)
 
-  mem-above : (x y : ℕ) → conductor w ≤ x → x < y → sumOfTwo (without x (setOf w)) y ≡ false → List·Memᴰ y (above x)
-  mem-above x y high less e =
+  mem-next : (x y : ℕ) → conductor w ≤ x → x < y → sumOfTwo (without x (setOf w)) y ≡ false → List·Memᴰ y (nextGenerators x)
+  mem-next x y high less e =
       ⊎-elim
       (λ g. Memᴰ·append-left (new x) (mem-keep (ltb x) right (mem-right-generators w fits y (omega arith) g) (lt-ltb x y less)))
       (Memᴰ·append-right (keep (ltb x) right))
       (made x y high less .0 e)
 
-  above-ordered : {x : ℕ} → List·Memᴰ x right → Ordered _<_ (above x)
-  above-ordered {x} i =
+  -- they rise
+  next-ordered : {x : ℕ} → List·Memᴰ x right → Ordered _<_ (nextGenerators x)
+  next-ordered {x} i =
       ordered-append _<_ (keep (ltb x) right) (new x) (ordered-keep _<_ (ltb x) right (right-generators-ordered w fits)) (rising x)
       (λ y z j k. omega (arith, right-generators-mem w fits i .0, generator-below w fits y (right-generators-mem w fits (keep-mem (ltb x) right j .0) .1), beyond x z k))
 
-  -- the gap lists with two gaps more, in list order
-  abbrev pub listed : List (List ℕ)
-  listed = joined (λ x. map (two x) (above x)) right
+  -- the gap lists that they make
+  abbrev pub grandchildLists : List (List ℕ)
+  grandchildLists = joined (λ x. map (two x) (nextGenerators x)) right
 
-  listed-ordered : Ordered Before listed
+  -- they are in list order
+  lists-ordered : Ordered Before grandchildLists
   unfolding Before
-  listed-ordered =
-      ordered-joined _<_ Before (λ x. map (two x) (above x)) right (right-generators-ordered w fits)
-      (λ x i. ordered-map _<_ Before (two x) (above x) (above-ordered i) (λ y z j k h. before-append (gaps w) (x ∷ y ∷ []) (x ∷ z ∷ []) (inr (refl, inl h))))
-      (λ x z i j h k l p q. first h (Memᴰ·of-map (two x) (above x) p) (Memᴰ·of-map (two z) (above z) q))
+  lists-ordered =
+      ordered-joined _<_ Before (λ x. map (two x) (nextGenerators x)) right (right-generators-ordered w fits)
+      (λ x i. ordered-map _<_ Before (two x) (nextGenerators x) (next-ordered i) (λ y z j k h. before-append (gaps w) (x ∷ y ∷ []) (x ∷ z ∷ []) (inr (refl, inl h))))
+      (λ x z i j h k l p q. first h (Memᴰ·of-map (two x) (nextGenerators x) p) (Memᴰ·of-map (two z) (nextGenerators z) q))
     where
-      first : {x z : ℕ} {k l : List ℕ} → x < z → (y : ℕ) × List·Memᴰ y (above x) × (two x y ≡ k)
-          → (y : ℕ) × List·Memᴰ y (above z) × (two z y ≡ l) → Before k l
+      first : {x z : ℕ} {k l : List ℕ} → x < z → (y : ℕ) × List·Memᴰ y (nextGenerators x) × (two x y ≡ k)
+          → (y : ℕ) × List·Memᴰ y (nextGenerators z) × (two z y ≡ l) → Before k l
       first {x} {z} h (y, i, e) (v, j, f) = subst₂ Before e f (before-append (gaps w) (x ∷ y ∷ []) (z ∷ v ∷ []) (inl h))
 
-  pub extensions-listed : extensions 2 w ≡ listed
-  extensions-listed =
-      ordered-unique Before before-asym (extensions 2 w) listed (extensions-all 2 w .ordered) listed-ordered
+  -- and they are all with two gaps more
+  pub extensions-by-generators : extensions 2 w ≡ grandchildLists
+  extensions-by-generators =
+      ordered-unique Before before-asym (extensions 2 w) grandchildLists (extensions-all 2 w .ordered) lists-ordered
       (λ k i. let (x, y, high, less, g, e, split) = two-more-iff w fits c k .0 i in
-      Memᴰ·cast (sym split) (mem-joined _ right (mem-right-generators w fits x high g) (Memᴰ·map (two x) (mem-above x y high less e))))
+      Memᴰ·cast (sym split) (mem-joined _ right (mem-right-generators w fits x high g) (Memᴰ·map (two x) (mem-next x y high less e))))
       (λ k i. let (x, j, p) = joined-mem _ right i in
-      let (y, q, split) = Memᴰ·of-map (two x) (above x) p in
+      let (y, q, split) = Memᴰ·of-map (two x) (nextGenerators x) p in
       let (high, g) = right-generators-mem w fits j in
-      let (less, e) = above-mem j q in
+      let (less, e) = next-mem j q in
       two-more-iff w fits c k .1 (x, y, high, less, g, e, split))
 
   -- each two generators, and the new ones
   pub by-new-generators : grandchildCount w ≡ pairs (length (rightGenerators w)) + sumOver (λ x. length (new x)) (rightGenerators w)
   unfolding grandchildCount
   by-new-generators =
-      ap length extensions-listed ∙ length-joined (λ x. map (two x) (above x)) right
-      ∙ sum-same _ _ right (λ x i. length-map (above x) (two x) ∙ length-append (keep (ltb x) right) (new x))
+      ap length extensions-by-generators ∙ length-joined (λ x. map (two x) (nextGenerators x)) right
+      ∙ sum-same _ _ right (λ x i. length-map (nextGenerators x) (two x) ∙ length-append (keep (ltb x) right) (new x))
       ∙ sum-plus (λ x. length (keep (ltb x) right)) (λ x. length (new x)) right
       ∙ ap (λ (n : ℕ). n + sumOver (λ x. length (new x)) right) (later-pairs right (right-generators-ordered w fits))

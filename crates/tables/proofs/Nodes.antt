@@ -6,14 +6,14 @@ use mathlib.Core.Logic.{_≢_}
 use mathlib.Core.Bool.{true, false, not, Bool·not-not}
 use mathlib.Core.List.{List, [], _∷_, _++_, map, List·Memᴰ}
 use native.Mathlib.Omega.{arith}
-use native.Mathlib.Nat.{lt-of-not-le, lt-of-lt-of-le, lt-of-le-of-lt, le-dest}
+use native.Mathlib.Nat.{lt-of-not-le, lt-of-lt-of-le, lt-of-le-of-lt, le-dest, mod-le}
 use native.Mathlib.Numerals.{add-one}
 use native.Mathlib.Decide.{ℕ-discrete}
 use lib.Dec.{ltb, leb}
-use lib.ListN.{getD}
+use lib.ListN.{length, getD, length-map}
 use lib.Pow.{pow-mono, shr-le, shl-exact}
 use lib.Bits.{bitOr}
-use lib.Count.{trailingZeros}
+use lib.Count.{ones, trailingZeros}
 use borrow.Author.Tests.{eq-eqb, ne-eqb, lt-ltb, le-ltb, leb-true, le-leb, not-true}
 use Rattle.words.specs.Lists.{run, keep, keepIf, every, joined, lastOr}
 use Rattle.words.specs.Sets.{sumOfTwo}
@@ -23,7 +23,7 @@ use Rattle.words.specs.Elements.{elementsBelow, elementAt, rightGenerators}
 use Rattle.words.proofs.Booleans.{not-both, by-value}
 use Rattle.words.proofs.Lists.{nothing, keep-mem, mem-keep, keep-in, keep-append, ordered-keep, first-least}
 use Rattle.words.proofs.Bits.{bit-shr, bit-zero, one-shl}
-use Rattle.words.proofs.StandingBits.{trailing-below, trailing-stands, trailing-lt}
+use Rattle.words.proofs.StandingBits.{trailing-below, trailing-stands, trailing-lt, positions-ones}
 use Rattle.words.proofs.Words.{child-or, gaps-mem, mem-gaps, gaps-list}
 use Rattle.words.proofs.Elements.{conductor-pos, largest-gap-pos, gap-below-conductor, element-from-conductor, multiplicity-le-conductor, generator-offset, right-generators-mem}
 use Rattle.words.proofs.Closure.{conductor-le-64}
@@ -107,6 +107,17 @@ module _ (w : ℕ) (fits : w < 2 ^ 64) where
   -- the table is a number of 64 bits
   pub table-fits : closed w ≡ true → genus w ≤ 32 → seedTable w < 2 ^ 64
   table-fits c h = lt-of-lt-of-le (table-lt w fits) (pow-mono {j = 64} (conductor-le-64 w fits c h))
+
+  -- and so is row 0
+  pub first-row-fits : closed w ≡ true → genus w ≤ 32 → firstRow (nodeOf w) < 2 ^ 64
+  unfolding nodeOf firstRow
+  first-row-fits c h = lt-of-le-of-lt (mod-le (seedTable w) _) (table-fits c h)
+
+  -- whose ones are the right generators
+  pub first-row-count : closed w ≡ true → genus w ≤ 32 → length (rightGenerators w) ≡ ones (firstRow (nodeOf w))
+  first-row-count c h =
+      let row = firstRow (nodeOf w) in
+      ap length (first-row-generators c h) ∙ length-map (positions row) (λ d. conductor w + d) ∙ positions-ones row (first-row-fits c h)
 
 -- ---- the next offset
 

@@ -45,14 +45,16 @@ module _ (w : ℕ) (fits : w < 2 ^ 64) where
         (above-left w fits i rest (element-from-conductor w fits rest (omega arith)) (omega arith)))
 
   module _ (i : ℕ) (low : i < conductor w - genus w) (j : ℕ) where
+    -- the length of row i
     abbrev size : ℕ
     size = elementAt w (suc i) - elementAt w i
 
-    -- an entry of row i, and what is past them
+    -- an entry of row i tells it
     entry : seed w i j ≡ seedOfOrder w i (conductor w + j)
     unfolding seed
     entry = sym (seed-sum i low (conductor w + j) (omega arith))
 
+    -- and past the entries there is none
     past : size ≤ j → false ≡ seedOfOrder w i (conductor w + j)
     past h = sym (seed-bound i low (conductor w + j) (omega arith) (omega arith))
 
@@ -64,7 +66,7 @@ module _ (w : ℕ) (fits : w < 2 ^ 64) where
       | no h ↦ List·getD-eq-default (row w i) false (omega (arith, length-map (run 0 size) (seed w i), length-run 0 size)) ∙ past (omega arith)
     ]
 
-    -- so does bit j of the part of the table that is row i
+    -- so is bit j of the part of the table that is row i
     pub row-part : bit (seedTable w / 2 ^ elementAt w i % 2 ^ (elementAt w (suc i) - elementAt w i)) j ≡ seedOfOrder w i (conductor w + j)
     row-part = bit-low (seedTable w / 2 ^ elementAt w i) size j ∙ elim (decLt j size) [
       | yes h ↦ ap₂ _&&_ (bit-shr (seedTable w) (elementAt w i) j

@@ -32,6 +32,7 @@ module _ (w : ℕ) (fits : w < 2 ^ 64) (ordinary : conductor w ≡ multiplicity 
   abbrev m : ℕ
   m = multiplicity w
 
+  -- from m on all are elements
   element-from : (x : ℕ) → m ≤ x → setOf w x ≡ true
   element-from x h = element-from-conductor w fits x (omega arith)
 
@@ -41,6 +42,7 @@ module _ (w : ℕ) (fits : w < 2 ^ 64) (ordinary : conductor w ≡ multiplicity 
       let s = sum-of (setOf w) y e in
       omega (arith, s .sum, multiplicity-least w fits (s .one) (s .one-pos) (s .one-in), multiplicity-least w fits (s .other) (s .other-pos) (s .other-in)))
 
+  -- so that m to 2 m - 1 are generators
   generates : (y : ℕ) → m ≤ y → y < m + m → generator w y ≡ true
   generates y low high = generator-from-conductor w fits y (omega arith) ∙ ap not (no-sum-below y high)
 
@@ -52,23 +54,26 @@ module _ (w : ℕ) (fits : w < 2 ^ 64) (ordinary : conductor w ≡ multiplicity 
       ∙ ap (λ (a : ℕ). run a m) ordinary
 
   module _ (x y : ℕ) (high : conductor w ≤ x) (less : x < y) where
+    -- the set without x
     abbrev rest : ℕ → Bool
     rest = without x (setOf w)
 
-    -- a sum without x
+    -- two elements but x add up to a sum without x
     found : (a b : ℕ) → m ≤ a → m ≤ b → a + b ≡ y → a ≢ x → b ≢ x → sumOfTwo rest y ≡ true
     found a b a-high b-high sum a-other b-other =
         sum-found rest y a b (omega (arith, multiplicity-pos w fits)) (omega (arith, multiplicity-pos w fits)) sum
         (in-without x (setOf w) a-other (element-from a a-high)) (in-without x (setOf w) b-other (element-from b b-high))
 
     module _ (none : sumOfTwo (without x (setOf w)) y ≡ false) (far : m + m ≤ y) where
-      -- no two but x add up to y
+      -- y is not below 2 m and no sum without x: no two elements but x add up to it
       apart : (a b : ℕ) → m ≤ a → m ≤ b → a + b ≡ y → a ≢ x → b ≢ x → ⊥
       apart a b a-high b-high sum a-other b-other = not-both (found a b a-high b-high sum a-other b-other) none
 
+      -- it is not below x + m, or m and y - m would
       from-x : x + m ≤ y
       from-x = elim (decLe (x + m) y) [ yes l ↦ l | no l ↦ absurd (apart m (y - m) (omega arith) (omega arith) (omega arith) (λ q. omega arith) (λ q. omega arith)) ]
 
+      -- nor above 2 m + 1, or m and y - m would, or m + 1 and y - m - 1
       to-next : y < m + m + 2
       to-next = elim (decLt y (m + m + 2)) [
         | yes l ↦ l

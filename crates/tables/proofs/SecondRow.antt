@@ -23,6 +23,7 @@ second-row-bit w fits two d =
 -- ---- as the code computes it
 
 module _ (n : Node) (fits : n .word < 2 ^ 64) (m : ℕ) (least : m ≡ multiplicity (n .word)) where
+  -- the word moved down by its multiplicity
   abbrev moved : ℕ
   moved = n .word / 2 ^ m
 
@@ -32,12 +33,12 @@ module _ (n : Node) (fits : n .word < 2 ^ 64) (m : ℕ) (least : m ≡ multiplic
       let wide : 2 ^ 64 ≤ 2 ^ (63 + m) = pow-mono {i = 64} {j = 63 + m} (omega (arith, multiplicity-pos (n .word) fits)) in
       omega (arith, shr-lt {n = n .word} 63 m (lt-of-lt-of-le fits wide))
 
+  -- the bits up to the next element
   pub second-row-computed : bitAnd (n .table / 2 ^ m) (bitXor (n .word / 2 ^ m) (n .word / 2 ^ m + 1)) ≡ secondRow n
   unfolding secondRow
   second-row-computed =
       let first = least ∙ multiplicity-element (n .word) fits in
-      let mask : bitXor moved (moved + 1) ≡ 2 ^ (elementAt (n .word) 2 - m) - 1 =
-      rw first (element-mask (n .word) fits 1) in
+      let mask : bitXor moved (moved + 1) ≡ 2 ^ (elementAt (n .word) 2 - m) - 1 = rw first (element-mask (n .word) fits 1) in
       ap (bitAnd (n .table / 2 ^ m)) mask ∙ and-mask (n .table / 2 ^ m) (elementAt (n .word) 2 - m) ∙ rw least
 
   -- behind 64 bits there is no row

@@ -122,7 +122,8 @@ impl Node {
             return pairs_among(words::multiplicity_of(self.word)) + 3;
         }
         let first = self.first_row();
-        let both = first & self.second_row();
+        let second = self.second_row();
+        let both = first & second;
         pairs_among(u64::count_ones(first) as u64) + u64::count_ones(both) as u64
     }
 

@@ -16,7 +16,7 @@ use Rattle.words.proofs.First.{genus-list-first}
 use Rattle.words.specs.Tree.{leaves}
 use Rattle.words.proofs.Leaves.{descendants-leaves}
 use Rattle.tables.specs.Answers.{grandchildrenOf}
-use Rattle.tables.proofs.GrandchildCounts.{count-of-descendants}
+use Rattle.tables.proofs.GrandchildCounts.{grandchildren-descendants}
 use Rattle.windows.specs.Windows.{windowList}
 use Rattle.windows.specs.declared.First.{First}
 use Rattle.windows.specs.Answers.{firstIn, firstOf}
@@ -61,4 +61,4 @@ module _ (w g : ℕ) (h : Accepted w) where
 -- up to genus 30, the words two genera on are the grandchildren
 pub count-grandchildren : (w : ℕ) → Accepted w → genus w ≤ 30 → countOf w (genus w + 2) ≡ grandchildrenOf w
 unfolding grandchildrenOf
-count-grandchildren w h few = count-answers w (genus w + 2) h (omega arith) ∙ sym (asked refused w _ h ∙ ap given (count-of-descendants w few))
+count-grandchildren w h few = count-answers w (genus w + 2) h (omega arith) ∙ sym (asked refused w _ h ∙ ap given (grandchildren-descendants w few))

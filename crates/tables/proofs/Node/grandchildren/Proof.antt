@@ -13,25 +13,11 @@ use Rattle.tables.proofs.GrandchildCounts.{at-zero, at-first, at-rows}
 use Rattle.tables.proofs.Node.grandchildren.Statement.{statement}
 use Rattle.tables.proofs.Node.grandchildren.Tie as tie
 
+-- the word 0
 returns : tie.Need-returns
 returns c = sym (at-zero (c .before .before .args .self) (c .if1 .taken))
 
--- the multiplicity of the word, and how many offsets both rows have
-few : (c : tie.After-multiplicity-of) → c .multiplicity-of .result ≤ 65
-few c = omega (arith, c .multiplicity-of .ensures, multiplicity-le (c .before .before .before .before .before .before .before .args .self .word) (omega arith))
-
-few-first : (c : tie.After-second-row) → ones (c .before .first-row .result) ≤ 65
-few-first c = omega (arith, ones-le 64 (c .before .first-row .result) (omega arith))
-
-few-both : (c : tie.After-second-row) → ones (bitAnd (c .before .first-row .result) (c .second-row .result)) ≤ 64
-few-both c = ones-le 64 _ (lt-of-le-of-lt (and-le-l (c .before .first-row .result) (c .second-row .result)) (omega arith))
-
-pairs-among-requires : tie.Need-pairs-among-requires
-pairs-among-requires c κs = few c
-
-add-result : tie.Need-add-result
-add-result c = omega (arith, c .pairs-among .ensures, pairs-bound _ (few (c .before)) .1)
-
+-- where k is below 2
 returns-2 : tie.Need-returns-2
 returns-2 c =
     let low = c .before .before in
@@ -44,6 +30,35 @@ returns-2 c =
       ap pairs (c .before .multiplicity-of .ensures),
     )
 
+-- by rows 0 and 1
+returns-3 : tie.Need-returns-3
+returns-3 c =
+    let row = c .before .before in
+    let low = row .before in
+    let told = low .before .before in
+    let n = told .before .before .before .before .args .self in
+    ap₂ _+_ (c .pairs-among2 .ensures ∙ ap (λ (r : ℕ). pairs (ones r)) (row .first-row .ensures))
+    (ap₂ (λ (r s : ℕ). ones (bitAnd r s)) (row .first-row .ensures) (c .before .second-row .ensures))
+    ∙ sym (at-rows n (told .before .before .if1 .left) (omega (arith, low .if2 .left, told .of-conductor .ensures, told .before .genus-of .ensures)))
+
+-- a multiplicity is at most 65
+few : (c : tie.After-multiplicity-of) → c .multiplicity-of .result ≤ 65
+few c = omega (arith, c .multiplicity-of .ensures, multiplicity-le (c .before .before .before .before .before .before .before .args .self .word) (omega arith))
+
+pairs-among-requires : tie.Need-pairs-among-requires
+pairs-among-requires c κs = few c
+
+add-result : tie.Need-add-result
+add-result c = omega (arith, c .pairs-among .ensures, pairs-bound _ (few (c .before)) .1)
+
+-- row 0 has at most 64 offsets
+few-first : (c : tie.After-second-row) → ones (c .before .first-row .result) ≤ 65
+few-first c = omega (arith, ones-le 64 (c .before .first-row .result) (omega arith))
+
+-- and so have both rows together
+few-both : (c : tie.After-second-row) → ones (bitAnd (c .before .first-row .result) (c .second-row .result)) ≤ 64
+few-both c = ones-le 64 _ (lt-of-le-of-lt (and-le-l (c .before .first-row .result) (c .second-row .result)) (omega arith))
+
 cast-pairs-among : tie.Need-cast-pairs-among
 cast-pairs-among c = omega (arith, few-first c)
 
@@ -55,16 +70,6 @@ cast-result c = omega (arith, few-both (c .before))
 
 add-result-2 : tie.Need-add-result-2
 add-result-2 c = omega (arith, few-both (c .before), c .pairs-among2 .ensures, pairs-bound _ (few-first (c .before)) .1)
-
-returns-3 : tie.Need-returns-3
-returns-3 c =
-    let row = c .before .before in
-    let low = row .before in
-    let told = low .before .before in
-    let n = told .before .before .before .before .args .self in
-    ap₂ _+_ (c .pairs-among2 .ensures ∙ ap (λ (r : ℕ). pairs (ones r)) (row .first-row .ensures))
-    (ap₂ (λ (r s : ℕ). ones (bitAnd r s)) (row .first-row .ensures) (c .before .second-row .ensures))
-    ∙ sym (at-rows n (told .before .before .if1 .left) (omega (arith, low .if2 .left, told .of-conductor .ensures, told .before .genus-of .ensures)))
 
 pub grandchildren-spec : {M : Type 1} → statement M
 grandchildren-spec =
