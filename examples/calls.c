@@ -68,6 +68,18 @@ static void tables(void) {
   CHECK(number_is(atlas_child(1, UINT64_MAX), 5, 0));
 }
 
+/* Up to genus 30 the number is that of the semigroups two genera on; 4294967295 has the gaps 1 to 32. */
+static void grandchildren(void) {
+  CHECK(number_is(atlas_grandchildren(91), 0, 3));
+  CHECK(number_is(atlas_count(91, 7), 0, 3));
+  CHECK(number_is(atlas_grandchildren(3), 0, 6));
+  CHECK(number_is(atlas_grandchildren(0), 0, 2));
+  CHECK(number_is(atlas_grandchildren(of_genus_32), 0, 1));
+  CHECK(number_is(atlas_grandchildren(4294967295), 0, 531));
+  CHECK(number_is(atlas_grandchildren(too_many), 1, 0));
+  CHECK(number_is(atlas_grandchildren(not_closed), 2, 0));
+}
+
 static void beginnings(void) {
   CHECK(begun_is(atlas_fresh(4), 0, 4, 15, 1, 33, 0));
   CHECK(begun_is(atlas_fresh(33), 3, 0, 0, 0, 0, 0));
@@ -207,6 +219,7 @@ int main(void) {
   words();
   both_conventions();
   tables();
+  grandchildren();
   beginnings();
   batches();
   window_batches();

@@ -2,7 +2,7 @@
 // refusal, 0 where there is none, then the values, all 0 where the call is refused. A list is a pointer and a length.
 ghost use mathlib.Core.Path.{_≡_};
 ghost use Rattle.words.specs.Answers.{answered, soughtAnswered, looked, lookOf, numberOf};
-ghost use Rattle.tables.specs.Answers.{tableOf, childOf};
+ghost use Rattle.tables.specs.Answers.{tableOf, childOf, grandchildrenOf};
 ghost use Rattle.walk.specs.Answers.{begun, reported};
 ghost use Rattle.walk.specs.Walks.{freshOf, freshInOf, startOf, startInOf, countOf};
 ghost use Rattle.generators.specs.Generators.{generatorsOf, wordFromOf};
@@ -216,6 +216,14 @@ pub extern "C" fn atlas_child(word: u64, element: u64) -> AtlasNumber
     ensures { λ r. ⌜ r ≡ numberIn (childOf word element) ⌝ }
 {
     number_of(tables::child(word, Element(element)))
+}
+
+// The number of grandchildren of a word, the semigroups with two gaps more whose smallest gaps are the word's. Questions 1, 2.
+#[no_mangle]
+pub extern "C" fn atlas_grandchildren(word: u64) -> AtlasNumber
+    ensures { λ r. ⌜ r ≡ numberIn (grandchildrenOf word) ⌝ }
+{
+    number_of(tables::grandchildren(word))
 }
 
 // A walk on the first semigroup of a genus. Question 3.
