@@ -62,6 +62,7 @@ extern "C" {
     fn atlas_look(word: u64) -> Report;
     fn atlas_seed_table(word: u64) -> Number;
     fn atlas_child(word: u64, element: u64) -> Number;
+    fn atlas_grandchildren(word: u64) -> Number;
     fn atlas_fresh(genus: u64) -> Begun;
     fn atlas_fresh_in(genus: u64, lowest: u8, highest: u8) -> Begun;
     fn atlas_start(word: u64) -> Begun;
@@ -192,6 +193,30 @@ fn seed_table(word: u64) -> u64 {
 fn children(word: u64) -> Vec<u64> {
     let c = conductor(word);
     (c..c + multiplicity(word)).filter(|&x| x <= 64 && generator(word, x)).map(|x| word + 2u64.pow(x as u32 - 1)).collect()
+}
+
+/// Is the set that misses the numbers of a list, each at most 70, and no other closed under addition?
+fn closed_list(gaps: &[u64]) -> bool {
+    let mut set = [true; 71];
+    for &x in gaps {
+        set[x as usize] = false;
+    }
+    gaps.iter().all(|&x| !sum_of_two(|a| set[a as usize], x))
+}
+
+/// How many gap lists of semigroups have two gaps behind those of the word: no gap of a semigroup of genus g is above 2 g.
+fn grandchildren(word: u64) -> u64 {
+    let mut list = gaps(word);
+    let most = 2 * (list.len() as u64 + 2);
+    let mut count = 0;
+    for x in conductor(word)..=most {
+        for y in x + 1..=most {
+            list.extend([x, y]);
+            count += closed_list(&list) as u64;
+            list.truncate(list.len() - 2);
+        }
+    }
+    count
 }
 
 fn minimal_generators(word: u64) -> Vec<u8> {
@@ -345,6 +370,7 @@ impl Random {
 struct Words {
     lists: Vec<Vec<u64>>,
     deep: Vec<u64>,
+    last: Vec<u64>,
 }
 
 impl Words {
@@ -479,6 +505,38 @@ fn tables(n: u64, words: &Words, r: &mut Random) -> Kind {
         let plain = word_refused(w).map_or_else(|| given(seed_table(w)), refused);
         kind.same(unsafe { atlas_seed_table(w) }, plain, &|| w.to_string());
     }
+    kind
+}
+
+/// The grandchildren of every word of genus 0 to 14, and of the first word of each multiplicity of genus 15 to 32.
+fn listed_grandchildren(words: &Words) -> Kind {
+    let mut kind = Kind::new("grandchildren of listed words");
+    let firsts = (15..=32).flat_map(|genus| (2..=genus as u8 + 1).map(move |m| unsafe { atlas_fresh_in(genus, m, m) }.walk.word));
+    for w in words.lists[..15].iter().flatten().copied().chain(firsts) {
+        kind.same(unsafe { atlas_grandchildren(w) }, given(grandchildren(w)), &|| w.to_string());
+    }
+    kind
+}
+
+/// Grandchildren of random words, half of them of genus 30 to 32; each of these genera and each answer is met.
+fn many_grandchildren(n: u64, words: &Words, r: &mut Random) -> Kind {
+    let mut kind = Kind::new("grandchildren");
+    let mut met = [0u64; 3];
+    let mut genera = [0u64; 33];
+    for _ in 0..n {
+        let w = if r.below(2) == 0 { words.last[r.below(words.last.len() as u64) as usize] } else { words.any(r) };
+        let plain = match word_refused(w) {
+            Some(q) => refused(q),
+            None => {
+                genera[gaps(w).len()] += 1;
+                given(grandchildren(w))
+            }
+        };
+        met[plain.refused as usize] += 1;
+        kind.same(unsafe { atlas_grandchildren(w) }, plain, &|| w.to_string());
+    }
+    assert!(met.iter().all(|&q| q > n / 100), "each answer is met: {met:?}");
+    assert!(genera[30..].iter().all(|&g| g > n / 10), "genus 30, 31 and 32 are met: {genera:?}");
     kind
 }
 
@@ -926,7 +984,22 @@ fn main() {
         }
         deep.push(w);
     }
-    let words = Words { lists, deep };
+    let mut last = Vec::new();
+    while last.len() < 3000 {
+        let genus = 30 + last.len() as u64 % 3;
+        let mut w = lists[8][r.below(lists[8].len() as u64) as usize];
+        while (gaps(w).len() as u64) < genus {
+            let below = children(w);
+            if below.is_empty() {
+                break;
+            }
+            w = below[r.below(below.len() as u64) as usize];
+        }
+        if gaps(w).len() as u64 == genus {
+            last.push(w);
+        }
+    }
+    let words = Words { lists, deep, last };
     for (g, lowest, highest) in every_window(0..=9, 11) {
         let mut list = Vec::new();
         below(0, g, lowest, highest, usize::MAX, &mut list);
@@ -936,6 +1009,8 @@ fn main() {
         looks(400_000, &words, &mut r),
         tables(100_000, &words, &mut r),
         childs(150_000, &words, &mut r),
+        listed_grandchildren(&words),
+        many_grandchildren(60_000, &words, &mut r),
         starts(60_000, &words, &mut r),
         fresh_ins(20_000, &words, &mut r),
         start_ins(60_000, &words, &mut r),

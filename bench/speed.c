@@ -71,6 +71,12 @@ static uint64_t coordinates_back(uint64_t word) {
   return count;
 }
 
+static uint64_t tabled(uint64_t word) { return atlas_seed_table(word).value; }
+static uint64_t grandchildren(uint64_t word) { return atlas_grandchildren(word).value; }
+
+/* The same number for a word of genus 24 by the count, which makes the children. */
+static uint64_t counted_on(uint64_t word) { return atlas_count(word, 26).value; }
+
 static uint64_t called(unsigned genus, uint64_t *out, size_t length, uint64_t *mixed, call *f) {
   uint64_t total = 0, mix = 0;
   atlas_walk walk = atlas_fresh(genus).walk;
@@ -87,6 +93,9 @@ static uint64_t called(unsigned genus, uint64_t *out, size_t length, uint64_t *m
 
 static uint64_t walk_looked(unsigned g, uint64_t *out, size_t n, uint64_t *mixed) { return called(g, out, n, mixed, looked); }
 static uint64_t walk_coordinates(unsigned g, uint64_t *out, size_t n, uint64_t *mixed) { return called(g, out, n, mixed, coordinates); }
+static uint64_t walk_tabled(unsigned g, uint64_t *out, size_t n, uint64_t *mixed) { return called(g, out, n, mixed, tabled); }
+static uint64_t walk_grandchildren(unsigned g, uint64_t *out, size_t n, uint64_t *mixed) { return called(g, out, n, mixed, grandchildren); }
+static uint64_t walk_counted_on(unsigned g, uint64_t *out, size_t n, uint64_t *mixed) { return called(g, out, n, mixed, counted_on); }
 static uint64_t walk_back(unsigned g, uint64_t *out, size_t n, uint64_t *mixed) { return called(g, out, n, mixed, coordinates_back); }
 
 /* The searches with largest gaps and multiplicities from 0 up to these. */
@@ -155,11 +164,12 @@ static void row(const char *name, unsigned genus, work *ours, work *paper, work 
   printf("%-7u %-6s %12" PRIu64 " %10.2f %10.2f %10.2f %9.2f %9.2f\n", genus, name, a, o * 1e3, p * 1e3, r * 1e3, o / p, o / r);
 }
 
-/* A call on every word of a genus, without the walk itself, as a ratio to the walk. */
-static void call_row(const char *name, unsigned genus, work *with_call, double walk) {
+/* A call on every word of a genus, without the walk itself, as a ratio to the walk; gives the sum of its numbers. */
+static uint64_t call_row(const char *name, unsigned genus, work *with_call, double walk) {
   uint64_t total, mixed;
   double taken = time_of(with_call, genus, LENGTH, &total, &mixed) - walk;
   printf("%s of every word of genus %u: %.1f times the walk, %.0f ns each\n", name, genus, taken / walk, taken / (double)total * 1e9);
+  return mixed;
 }
 
 int main(void) {
@@ -174,6 +184,13 @@ int main(void) {
   call_row("a look", 24, walk_looked, walk);
   call_row("coordinates", 24, walk_coordinates, walk);
   call_row("coordinates and back", 24, walk_back, walk);
+  call_row("seed table", 24, walk_tabled, walk);
+  uint64_t by_rows = call_row("grandchildren", 24, walk_grandchildren, walk);
+  uint64_t by_count = call_row("count two genera on", 24, walk_counted_on, walk);
+  if (by_rows != by_count || by_rows != atlas_count(0, 26).value) {
+    fprintf(stderr, "results differ: grandchildren of genus 24\n");
+    exit(1);
+  }
   double single = time_of(our_walk, 20, 1, &total, &mixed);
   printf("a batch of length 1 at genus 20: %.0f ns\n", single / (double)total * 1e9);
   uint64_t inside;

@@ -298,6 +298,35 @@ fn searches() {
     show_find(18446744073709551615, -1, 1);
 }
 
+fn show_grandchildren(word: u64) {
+    text(b"grandchildren");
+    field(word);
+    text(b":");
+    answer(tables::grandchildren(word));
+    end();
+}
+
+// Grandchildren by the first two rows, of words that have one row, of words of genus 31 and 32, and of refused words.
+fn grandchildren() {
+    show_grandchildren(91);
+    show_grandchildren(3);
+    show_grandchildren(0);
+    show_grandchildren(1);
+    show_grandchildren(5);
+    show_grandchildren(111);
+    show_grandchildren(85);
+    show_grandchildren(2147483647);
+    show_grandchildren(1537228672809129301);
+    show_grandchildren(4294967295);
+    show_grandchildren(6442450943);
+    show_grandchildren(6148914691236517205);
+    show_grandchildren(72057598064459775);
+    show_grandchildren(292805464964331487);
+    show_grandchildren(13);
+    show_grandchildren(8589934591);
+    show_grandchildren(18446744073709551615);
+}
+
 fn main() {
     example_1_4();
     example_1_5();
@@ -307,4 +336,5 @@ fn main() {
     ends_of_range();
     windows();
     searches();
+    grandchildren();
 }
