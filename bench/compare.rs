@@ -1,7 +1,8 @@
 //! Random calls of the atlas, valid and damaged, walks of all small windows and searches in all small genera, against an implementation
 //! from the plain definitions: sets of numbers, sums of two elements, gap lists. It uses no bit tricks and no seed tables but those of
-//! definition 1.3. Searches in genus 19 and above are held to the lists of the atlas's own walk. Prints the seed, the number of calls of
-//! each kind and the number of differences, which must be 0.
+//! definition 1.3. Searches in genus 19 and above are held to the lists of the atlas's own walk, and the grandchildren of all words of three
+//! genera, together, to the known numbers of semigroups two genera on. Prints the seed, the number of calls of each kind and the number of
+//! differences, which must be 0.
 
 use std::collections::HashMap;
 
@@ -912,6 +913,16 @@ fn walked(genus: u64, lowest: u8, highest: u8) -> Vec<u64> {
     }
 }
 
+/// The grandchildren of all words of genus 30, 31 and 32, together: the numbers of semigroups of genus 32, 33 and 34 (OEIS A007323).
+fn all_grandchildren() -> Kind {
+    let mut kind = Kind::new("grandchildren, summed over a genus");
+    for (genus, known) in [(30, 15_195_070), (31, 24_896_206), (32, 40_761_087)] {
+        let sum: u64 = walked(genus, 1, 33).iter().map(|&w| unsafe { atlas_grandchildren(w) }.value).sum();
+        kind.same(sum, known, &|| genus.to_string());
+    }
+    kind
+}
+
 /// All searches of genus 0 to 9, and those of genus 10 to 26 with a largest gap from -2 to 54 and a multiplicity from 0 to 30, of which the
 /// semigroups there have 10 to 51 and 2 to 27.
 fn small_finds(words: &Words) -> Kind {
@@ -1011,6 +1022,7 @@ fn main() {
         childs(150_000, &words, &mut r),
         listed_grandchildren(&words),
         many_grandchildren(60_000, &words, &mut r),
+        all_grandchildren(),
         starts(60_000, &words, &mut r),
         fresh_ins(20_000, &words, &mut r),
         start_ins(60_000, &words, &mut r),

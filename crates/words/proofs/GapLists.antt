@@ -1,6 +1,6 @@
 -- Numerical semigroups by the lists of their gaps, of any genus: which lists they are, the lists that go on from the gaps of a word, and that up
 -- to genus 32 these are the gaps of the descendants of the word. Assumes nothing.
-use Prim.Native.Nat.{ℕ, suc, _+_, _*_, _^_, _≤_, _<_}
+use Prim.Native.Nat.{ℕ, suc, _+_, _^_, _≤_, _<_}
 use mathlib.Core.Path.{_≡_, refl, sym, _∙_, ap, ap₂, subst, fun-ext}
 use mathlib.Core.Logic.{_↔_, ⊎-elim}
 use mathlib.Core.Bool.{Bool, true, false, not, _&&_, and-true, and-comm, and-eq-true-iff}
@@ -119,13 +119,13 @@ module _ (r w : ℕ) where
 
   -- behind the gaps of w each has r numbers from the conductor on, and it is closed
   extensions-mem : {k : List ℕ} → List·Memᴰ k (extensions r w)
-      → (l : List ℕ) × (gaps w ++ l ≡ k) × Rising (conductor w) (suc (2 * g)) l × (length l ≡ r) × (closedGaps k ≡ true)
+      → (l : List ℕ) × (hi : ℕ) × (gaps w ++ l ≡ k) × Rising (conductor w) hi l × (length l ≡ r) × (closedGaps k ≡ true)
   unfolding extensions
   extensions-mem m =
       let (i, c) = keep-mem closedGaps _ m in
-      let (l, j, e) = Memᴰ·of-map (λ l. gaps w ++ l) (risings r (conductor w) (2 * g)) i in
-      let (rise, count) = risings-mem r (conductor w) (2 * g) j in
-      (l, e, rise, count, c)
+      let (l, j, e) = Memᴰ·of-map (λ l. gaps w ++ l) (risings r (conductor w) _) i in
+      let (rise, count) = risings-mem r (conductor w) _ j in
+      (l, _, e, rise, count, c)
 
   -- the gap list of a numerical semigroup with r gaps behind those of w is one of them
   mem-extensions : (S : Set) (l : List ℕ) → NumericalSemigroup S → GapsOf S (gaps w ++ l) → length l ≡ r → List·Memᴰ (gaps w ++ l) (extensions r w)
@@ -133,14 +133,16 @@ module _ (r w : ℕ) where
   mem-extensions S l s o count =
       let all : length (gaps w ++ l) ≡ g = omega (arith, length-append (gaps w) l) in
       let positive : (x : ℕ) → List·Memᴰ x (gaps w ++ l) → 0 < x = λ x m. gap-positive S (s .zero-in) x (o .missed x m) in
-      let rise : Rising (conductor w) (suc (2 * g)) l = record {
-        ordered = ordered-parts _<_ (gaps w) l (o .rising) .0;
-        within = λ x m. (
-          behind-conductor w l (positive, o .rising) x m,
-          omega (arith, gap-bound S (gaps w ++ l) g s o all x (Memᴰ·append-right (gaps w) m)),
-        );
-      } in
-      mem-keep closedGaps _ (Memᴰ·map (λ l. gaps w ++ l) (mem-risings r (conductor w) (2 * g) l (rise, count)))
+      mem-keep closedGaps _ (Memᴰ·map (λ l. gaps w ++ l) (mem-risings r (conductor w) _ l (
+        record {
+          ordered = ordered-parts _<_ (gaps w) l (o .rising) .0;
+          within = λ x m. (
+            behind-conductor w l (positive, o .rising) x m,
+            omega (arith, gap-bound S (gaps w ++ l) g s o all x (Memᴰ·append-right (gaps w) m)),
+          );
+        },
+        count,
+      )))
       (closed-gaps-iff (gaps w ++ l) (o .rising) positive .1 (subst NumericalSemigroup (sym (fun-ext (missing-same S (gaps w ++ l) o))) s))
 
   -- they are in list order
@@ -148,7 +150,7 @@ module _ (r w : ℕ) where
   unfolding extensions
   extensions-ordered =
       ordered-keep Before closedGaps _
-      (ordered-map Before Before (λ l. gaps w ++ l) (risings r (conductor w) (2 * g)) (risings-ordered r (conductor w) (2 * g))
+      (ordered-map Before Before (λ l. gaps w ++ l) (risings r (conductor w) _) (risings-ordered r (conductor w) _)
       (λ k l i j. before-append (gaps w) k l))
 
   -- they are the gap lists of the numerical semigroups with r gaps more than w whose smallest gaps are those of w
@@ -156,7 +158,7 @@ module _ (r w : ℕ) where
   unfolding Ordered
   extensions-all = record {
     only = λ k m.
-        let (l, e, rise, count, c) = extensions-mem m in
+        let (l, hi, e, rise, count, c) = extensions-mem m in
         let (positive, order) = subst (λ (k : List ℕ). Ordered _<_ (0 ∷ k)) e (rise-behind w l rise) in
         let o : GapsOf (setMissing k) k = missing-gaps k order in
         (setMissing k, (closed-gaps-iff k order positive .0 c, (l, subst (GapsOf (setMissing k)) (sym e) o, count)), o);
@@ -229,7 +231,7 @@ module _ (w : ℕ) (fits : w < 2 ^ 64) where
   unfolding Ordered
   two-more-iff c k = (
     λ m.
-        let (l, e, rise, count, t) = extensions-mem 2 w m in
+        let (l, hi, e, rise, count, t) = extensions-mem 2 w m in
         let (x, y, q) = two-of l count in
         let both = subst (Rising (conductor w) _) (sym q) rise in
         let high : conductor w ≤ x = both .within x (List·Memᴰ·head refl) .0 in
