@@ -22,9 +22,10 @@ use Rattle.words.proofs.Children.{child-at}
 use Rattle.words.proofs.Tree.{multiplicity-stays}
 use Rattle.tables.specs.Seeds.{orderOneSeed, seedTable}
 use Rattle.tables.specs.Nodes.{nodeOf, firstRow, secondRow}
+use Rattle.tables.proofs.Orders.{multiplicity-below}
 use Rattle.tables.proofs.SecondRow.{second-row-bit}
 use Rattle.tables.proofs.FirstRow.{row-bit}
-use Rattle.tables.proofs.ChildGenerators.{multiplicity-below, generator-without}
+use Rattle.tables.proofs.ChildGenerators.{generator-without}
 
 module _ (w : ℕ) (fits : w < 2 ^ 64) (two : 2 ≤ conductor w - genus w) where
   abbrev m : ℕ
@@ -44,7 +45,7 @@ module _ (w : ℕ) (fits : w < 2 ^ 64) (two : 2 ≤ conductor w - genus w) where
     -- it has the multiplicity of w
     same-multiplicity : multiplicity v ≡ m
     same-multiplicity =
-        multiplicity-stays w v x [] fits (sym (child .new-gaps)) (child .fits) (omega (arith, multiplicity-below w fits x (child .high) two))
+        multiplicity-stays w v x [] fits (sym (child .new-gaps)) (child .fits) (omega (arith, child .high, multiplicity-below w fits two))
 
     -- its generators not below its conductor: the later ones of w, and x + m where x is an order-one seed
     pub child-generator : (y : ℕ) → conductor w + d < y

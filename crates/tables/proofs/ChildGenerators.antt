@@ -14,10 +14,10 @@ use Rattle.words.specs.Words.{setOf, genus, conductor}
 use Rattle.words.specs.Elements.{elementAt, multiplicity, generator}
 use Rattle.words.proofs.Booleans.{true-together}
 use Rattle.words.proofs.Sets.{Carries, sum-of, sum-found, sum-without, same-sums, in-without, without-in}
-use Rattle.words.proofs.Elements.{conductor-pos, element-from-conductor, element-rises, multiplicity-element, multiplicity-in, multiplicity-pos, multiplicity-least, generator-from-conductor}
+use Rattle.words.proofs.Elements.{conductor-pos, element-from-conductor, multiplicity-element, multiplicity-in, multiplicity-pos, multiplicity-least, generator-from-conductor}
 use Rattle.tables.specs.Seeds.{leftAfter, orderOneSeed}
 use Rattle.tables.proofs.Seeds.{left-above, above-left}
-use Rattle.tables.proofs.Orders.{element-le-conductor, seed-sum}
+use Rattle.tables.proofs.Orders.{multiplicity-below, seed-sum}
 
 module _ (w : ℕ) (fits : w < 2 ^ 64) (x : ℕ) (high : conductor w ≤ x) where
   abbrev m : ℕ
@@ -53,11 +53,8 @@ module _ (w : ℕ) (fits : w < 2 ^ 64) (x : ℕ) (high : conductor w ≤ x) wher
           ]
         ])
 
-  -- where k is at least 2, the multiplicity is below the conductor
+  -- where k is at least 2
   module _ (two : 2 ≤ conductor w - genus w) where
-    pub multiplicity-below : multiplicity w < conductor w
-    multiplicity-below = omega (arith, multiplicity-element w fits, element-rises w fits 1, element-le-conductor w fits 2 two)
-
     -- x + m is a sum of two elements but x where it is one of two elements above m
     sums-above : sumOfTwo (leftAfter w 1) (x + m) ≡ sumOfTwo rest (x + m)
     sums-above = same-sums (leftAfter w 1) rest (x + m) to fro
@@ -92,5 +89,5 @@ module _ (w : ℕ) (fits : w < 2 ^ 64) (x : ℕ) (high : conductor w ≤ x) wher
           rw (eq-eqb y (x + m) e, generator-from-conductor w fits y h, sum) (ap (λ (n : ℕ). not (sumOfTwo rest n)) e ∙ sym order-one)
       | no e ↦
           rw (ne-eqb y (x + m) e)
-          (ap not (sum-stays (omega (arith, multiplicity-below)) y e) ∙ sym (generator-from-conductor w fits y h) ∙ sym (or-false (generator w y)))
+          (ap not (sum-stays (omega (arith, multiplicity-below w fits two)) y e) ∙ sym (generator-from-conductor w fits y h) ∙ sym (or-false (generator w y)))
     ]

@@ -1,36 +1,37 @@
 -- The right generators of a word, from the first row of its table. Assumes nothing.
-use Prim.Native.Nat.{ℕ, _+_, _%_, _^_, _≤_, _<_}
-use mathlib.Core.Path.{_≡_, sym, ap, _∙_}
+use Prim.Native.Nat.{ℕ, _+_, _-_, _/_, _%_, _^_, _≤_, _<_}
+use mathlib.Core.Path.{_≡_, sym, ap, ap₂, _∙_}
 use mathlib.Core.Bool.{true}
 use mathlib.Core.List.{map, Memᴰ·map, Memᴰ·of-map, Memᴰ·cast}
 use native.Mathlib.Omega.{arith}
-use native.Mathlib.Nat.{le-dest, mod-lt}
-use native.Mathlib.Decide.{decLt}
-use lib.Pow.{pow-pos}
+use native.Mathlib.Nat.{le-dest, div-one}
 use Rattle.words.specs.Words.{bit, conductor, genus, closed}
 use Rattle.words.specs.Positions.{positions}
-use Rattle.words.specs.Elements.{multiplicity, generator, rightGenerators}
-use Rattle.words.proofs.Booleans.{is-false}
+use Rattle.words.specs.Elements.{elementAt, multiplicity, generator, rightGenerators}
 use Rattle.words.proofs.Lists.{ordered-map, ordered-unique}
-use Rattle.words.proofs.Bits.{bit-mod, bit-past}
 use Rattle.words.proofs.StandingBits.{positions-mem, mem-positions, positions-ordered}
-use Rattle.words.proofs.Elements.{multiplicity-le-conductor, generator-offset, right-generators-mem, mem-right-generators, right-generators-ordered}
+use Rattle.words.proofs.Elements.{element-zero, multiplicity-element, genus-lt-conductor, multiplicity-le-conductor, generator-offset, right-generators-mem, mem-right-generators, right-generators-ordered}
 use Rattle.words.proofs.Closure.{conductor-le-64}
 use Rattle.tables.specs.Seeds.{seedTable}
-use Rattle.tables.proofs.Seeds.{row-0-generator}
+use Rattle.tables.proofs.Orders.{row-part, order-zero}
 
 module _ (w : ℕ) (fits : w < 2 ^ 64) where
   -- the first row as a number
   abbrev row : ℕ
   row = seedTable w % 2 ^ multiplicity w
 
+  -- it is the part of the table that is row 0
+  first-part : seedTable w / 2 ^ elementAt w 0 % 2 ^ (elementAt w 1 - elementAt w 0) ≡ row
+  first-part =
+      let whole : seedTable w / 2 ^ elementAt w 0 ≡ seedTable w = ap (λ (n : ℕ). seedTable w / 2 ^ n) (element-zero w fits) ∙ div-one (seedTable w) in
+      let size : elementAt w 1 - elementAt w 0 ≡ multiplicity w = omega (arith, element-zero w fits, multiplicity-element w fits) in
+      ap₂ (λ (t n : ℕ). t % 2 ^ n) whole size
+
   -- its bit d tells whether the conductor plus d is a generator
   pub row-bit : (d : ℕ) → bit (seedTable w % 2 ^ multiplicity w) d ≡ generator w (conductor w + d)
-  row-bit d = elim (decLt d (multiplicity w)) [
-    | yes h ↦ bit-mod (seedTable w) (multiplicity w) d h ∙ row-0-generator w fits d h
-    | no h ↦ bit-past row (multiplicity w) d (mod-lt (seedTable w) (pow-pos (multiplicity w))) (omega arith)
-        ∙ sym (is-false (generator w (conductor w + d)) (λ g. h (generator-offset w fits d g)))
-  ]
+  row-bit d =
+      ap (λ (t : ℕ). bit t d) (sym first-part) ∙ row-part w fits 0 (omega (arith, genus-lt-conductor w fits)) d
+      ∙ order-zero w fits (conductor w + d) (omega arith)
 
   -- the offsets of the right generators from the conductor are the positions of the bits that stand in the first row
   pub right-generators-row : closed w ≡ true → genus w ≤ 32

@@ -10,11 +10,11 @@ use borrow.Author.Tests.{le-leb, lt-ltb, le-ltb}
 use Rattle.words.specs.Lists.{run, every}
 use Rattle.words.specs.Sets.{Set, sumOfTwo}
 use Rattle.words.specs.Words.{bit, setOf, conductor, genus}
-use Rattle.words.specs.Elements.{elementAt, generator}
+use Rattle.words.specs.Elements.{elementAt, multiplicity, generator}
 use Rattle.words.proofs.Lists.{rises, getD-map-run, length-run}
 use Rattle.words.proofs.Bits.{bit-low, bit-shr}
 use Rattle.words.proofs.Sets.{sum-found}
-use Rattle.words.proofs.Elements.{conductor-pos, genus-lt-conductor, element-zero, element-in, element-conductor, element-rises, element-from-conductor, generator-from-conductor}
+use Rattle.words.proofs.Elements.{conductor-pos, genus-lt-conductor, element-zero, element-in, element-conductor, element-rises, element-from-conductor, multiplicity-element, generator-from-conductor}
 use Rattle.tables.specs.Seeds.{leftAfter, seedOfOrder, seed, row, seedTable}
 use Rattle.tables.proofs.Seeds.{above-left, seed-entry, table-bit}
 
@@ -23,6 +23,10 @@ module _ (w : ℕ) (fits : w < 2 ^ 64) where
   pub element-le-conductor : (i : ℕ) → i ≤ conductor w - genus w → elementAt w i ≤ conductor w
   element-le-conductor i h =
       omega (arith, rises (elementAt w) (λ j. le-of-lt (element-rises w fits j)) {i = i} {k = conductor w - genus w} h, element-conductor w fits)
+
+  -- so that the multiplicity is below it where k is at least 2
+  pub multiplicity-below : 2 ≤ conductor w - genus w → multiplicity w < conductor w
+  multiplicity-below two = omega (arith, multiplicity-element w fits, element-rises w fits 1, element-le-conductor 2 two)
 
   module _ (i : ℕ) (low : i < conductor w - genus w) (x : ℕ) (high : conductor w ≤ x) where
     -- what is left holds x with the element of index i
