@@ -89,7 +89,7 @@ atlas_number atlas_seed_table(uint64_t word);
 atlas_number atlas_child(uint64_t word, uint64_t element);
 
 /* The number of grandchildren of a word, the semigroups with two gaps more whose smallest gaps are exactly the word's. It is given for words of
-   genus 31 and 32 too, whose grandchildren have no words. Refusals 1, 2. */
+   genus 31 and 32 too, whose grandchildren have no accepted words. Refusals 1, 2. */
 atlas_number atlas_grandchildren(uint64_t word);
 
 /* A walk on the first semigroup of a genus; it has lowest 1 and highest 33, which hold the whole genus. Refusal 3. */

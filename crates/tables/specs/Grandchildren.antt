@@ -14,8 +14,8 @@ use Rattle.tables.specs.Seeds.{orderOneSeed}
 use Rattle.tables.specs.Nodes.{firstRow, secondRow}
 use Rattle.tables.specs.declared.Node.{Node}
 
--- how many numerical semigroups have two gaps more than w and as their smallest gaps exactly the gaps of w; those of a word of genus 31 or 32
--- have no word of 64 bits
+-- how many numerical semigroups have two gaps more than w and as their smallest gaps exactly the gaps of w; below a word of genus 31 or 32 they
+-- have more than 32 gaps, some of them above 64
 unfoldable pub grandchildCount : ℕ → ℕ
 grandchildCount w = length (extensions 2 w)
 

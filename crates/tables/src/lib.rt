@@ -242,7 +242,7 @@ pub fn child(word: u64, element: Element) -> NumberAnswer
 }
 
 // The number of grandchildren of a word, the semigroups with two gaps more whose smallest gaps are the word's: the refusals of a look. At genus
-// 31 and 32 it is given too, although the grandchildren have no words.
+// 31 and 32 it is given too, although no word of a grandchild is accepted.
 pub fn grandchildren(word: u64) -> NumberAnswer
     ensures { λ r. ⌜ answered r ≡ grandchildrenOf word ⌝ }
 {
