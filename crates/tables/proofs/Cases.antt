@@ -1,9 +1,8 @@
--- The known tables, children and nodes, computed from the definitions. Assumes nothing.
+-- The known tables, seeds, rows, children, nodes and numbers of grandchildren, computed from the definitions. Assumes nothing.
 use Prim.Native.Nat.{ℕ}
 use mathlib.Core.Path.{_≡_, refl}
-use mathlib.Core.Bool.{true}
+use mathlib.Core.Bool.{true, false}
 use mathlib.Core.List.{[], _∷_, map}
-use native.Mathlib.Omega.{arith}
 use Rattle.words.specs.Lists.{run, keep, keepIf, every, joined, lastOr}
 use Rattle.words.specs.Sets.{sumOfTwo}
 use Rattle.words.specs.Words.{bit, setOf, gaps, genus, digit, largestGap, conductor, closed, childWord, ofBits}
@@ -11,12 +10,11 @@ use Rattle.words.specs.Elements.{elementsBelow, elementAt, multiplicity, genera
 use Rattle.words.specs.GenusList.{risings}
 use Rattle.words.specs.GapLists.{setMissing, closedGaps, extensions}
 use Rattle.words.specs.Answers.{refused, given, askWord}
-use Rattle.tables.specs.Seeds.{leftAfter, seed, row, seedBits, seedTable}
+use Rattle.tables.specs.Seeds.{leftAfter, seedOfOrder, orderOneSeed, seed, row, seedBits, seedTable}
 use Rattle.tables.specs.Child.{struck, struckBits, padded, lastThreeSet, childBits}
-use Rattle.tables.specs.Nodes.{nodeOf}
-use Rattle.tables.specs.Grandchildren.{grandchildCount, pairs}
+use Rattle.tables.specs.Nodes.{nodeOf, firstRow, secondRow}
+use Rattle.tables.specs.Grandchildren.{grandchildCount}
 use Rattle.tables.specs.Answers.{nodeAnswer, tableOf, childOf, grandchildrenOf}
-use Rattle.tables.proofs.GrandchildCounts.{first-grandchildren}
 
 -- the tables of the words 0, 1, 5, 111, 91 and 13, and of the word of the gaps 1 to 33
 pub known-tables : map tableOf (0 ∷ 1 ∷ 5 ∷ 111 ∷ 91 ∷ 13 ∷ 8589934591 ∷ [])
@@ -57,7 +55,14 @@ pub known-grandchildren : map grandchildrenOf (91 ∷ 3 ∷ 0 ∷ 61489146912365
 unfolding run keep keepIf every joined bit setOf gaps genus lastOr largestGap conductor closed sumOfTwo risings setMissing closedGaps extensions grandchildCount askWord grandchildrenOf
 known-grandchildren = refl
 
--- and those of the word of the gaps 1 to 32
-pub known-first-grandchildren : grandchildrenOf 4294967295 ≡ given 531
-unfolding pairs
-known-first-grandchildren = first-grandchildren 33 (omega arith) (omega arith)
+-- examples 1.4 and 1.5 of source 000: of the word 111 the elements 8, 9 and 10 are order-one seeds, the last of which is no generator; of the
+-- word 6527 the element 14 is no order-one seed, but an order-two seed
+pub known-seeds : (keep (orderOneSeed 111) (run 8 5) ≡ 8 ∷ 9 ∷ 10 ∷ []) × (rightGenerators 111 ≡ 8 ∷ 9 ∷ 11 ∷ 12 ∷ [])
+    × (seedOfOrder 6527 1 14 ≡ false) × (seedOfOrder 6527 2 14 ≡ true)
+unfolding run keep keepIf every bit setOf gaps genus lastOr largestGap conductor elementsBelow elementAt multiplicity generator rightGenerators sumOfTwo leftAfter seedOfOrder
+known-seeds = (refl, refl, refl, refl)
+
+-- rows 0 and 1 of the two as numbers
+pub known-rows : (map (λ w. firstRow (nodeOf w)) (111 ∷ 6527 ∷ []) ≡ 27 ∷ 11 ∷ []) × (map (λ w. secondRow (nodeOf w)) (111 ∷ 6527 ∷ []) ≡ 7 ∷ 2 ∷ [])
+unfolding run keep keepIf every joined bit setOf gaps genus lastOr largestGap conductor elementsBelow elementAt multiplicity sumOfTwo leftAfter seed row seedBits digit ofBits seedTable nodeOf firstRow secondRow
+known-rows = (refl, refl)

@@ -17,12 +17,11 @@ use Rattle.words.specs.Children.{Child}
 use Rattle.words.proofs.Booleans.{true-together}
 use Rattle.words.proofs.Bits.{bit-and, bit-or, bit-shr, bits-decide, bit-digit-at, digit-lt}
 use Rattle.words.proofs.Words.{child-set}
-use Rattle.words.proofs.Elements.{conductor-pos, element-from-conductor, generator-from-conductor, right-generators-mem, multiplicity-pos}
+use Rattle.words.proofs.Elements.{multiplicity-below, conductor-pos, element-from-conductor, generator-from-conductor, right-generators-mem, multiplicity-pos}
 use Rattle.words.proofs.Children.{child-at}
 use Rattle.words.proofs.Tree.{multiplicity-stays}
 use Rattle.tables.specs.Seeds.{orderOneSeed, seedTable}
 use Rattle.tables.specs.Nodes.{nodeOf, firstRow, secondRow}
-use Rattle.tables.proofs.Orders.{multiplicity-below}
 use Rattle.tables.proofs.SecondRow.{second-row-bit}
 use Rattle.tables.proofs.FirstRow.{row-bit}
 use Rattle.tables.proofs.ChildGenerators.{generator-without}

@@ -14,10 +14,10 @@ use Rattle.words.specs.Words.{setOf, genus, conductor}
 use Rattle.words.specs.Elements.{elementAt, multiplicity, generator}
 use Rattle.words.proofs.Booleans.{true-together}
 use Rattle.words.proofs.Sets.{Carries, sum-of, sum-found, sum-without, same-sums, in-without, without-in}
-use Rattle.words.proofs.Elements.{conductor-pos, element-from-conductor, multiplicity-element, multiplicity-in, multiplicity-pos, multiplicity-least, generator-from-conductor}
+use Rattle.words.proofs.Elements.{multiplicity-below, conductor-pos, element-from-conductor, multiplicity-element, multiplicity-in, multiplicity-pos, multiplicity-least, generator-from-conductor}
 use Rattle.tables.specs.Seeds.{leftAfter, orderOneSeed}
 use Rattle.tables.proofs.Seeds.{left-above, above-left}
-use Rattle.tables.proofs.Orders.{multiplicity-below, seed-sum}
+use Rattle.tables.proofs.Orders.{seed-sum}
 
 module _ (w : ℕ) (fits : w < 2 ^ 64) (x : ℕ) (high : conductor w ≤ x) where
   abbrev m : ℕ

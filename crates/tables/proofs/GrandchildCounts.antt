@@ -22,9 +22,9 @@ use Rattle.words.specs.GapLists.{setMissing, closedGaps, extensions, Extends, A
 use Rattle.words.specs.Answers.{Accepted, refused, given}
 use Rattle.words.proofs.Booleans.{by-value}
 use Rattle.words.proofs.Lists.{keep-mem, mem-keep, ordered-run, ordered-one, ordered-keep, run-mem, length-run, sum-same, sum-none}
-use Rattle.words.proofs.Kept.{keep-same, keep-both, keep-map}
-use Rattle.words.proofs.Bits.{bit-and}
-use Rattle.words.proofs.StandingBits.{positions-ones}
+use Rattle.words.proofs.Kept.{keep-same, keep-map}
+use Rattle.words.proofs.StandingBits.{positions-ones, positions-and}
+use Rattle.words.proofs.Elements.{ordinary-conductor}
 use Rattle.words.proofs.Closure.{multiplicity-from-two}
 use Rattle.words.proofs.GenusList.{word-nonzero}
 use Rattle.words.proofs.Answers.{asked}
@@ -37,7 +37,7 @@ use Rattle.tables.specs.Answers.{grandchildrenOf}
 use Rattle.tables.specs.declared.Node.{Node}
 use Rattle.tables.proofs.SecondRow.{second-row-bit}
 use Rattle.tables.proofs.ChildGenerators.{generator-without}
-use Rattle.tables.proofs.Ordinary.{ordinary-conductor, ordinary-generators, newFrom, none-of, none-without}
+use Rattle.tables.proofs.Ordinary.{ordinary-generators, newFrom, none-of, none-without}
 use Rattle.tables.proofs.Nodes.{first-row-generators, first-row-fits, first-row-count}
 use Rattle.tables.proofs.GrandchildLists.{by-new-generators}
 
@@ -103,10 +103,7 @@ module _ (w : ℕ) (fits : w < 2 ^ 64) (c : closed w ≡ true) (two : 2 ≤ cond
 
     -- the seeds among the generators are at the offsets that both rows have
     both-positions : keep (λ d. orderOneSeed w (conductor w + d)) (positions row) ≡ positions (bitAnd row next)
-    unfolding positions
-    both-positions =
-        keep-same _ (bit next) (positions row) (λ d i. sym (second-row-bit w fits two d))
-        ∙ keep-both (bit next) (bit row) (run 0 64) ∙ keep-same _ _ (run 0 64) (λ d i. sym (bit-and row next d))
+    both-positions = keep-same _ (bit next) (positions row) (λ d i. sym (second-row-bit w fits two d)) ∙ positions-and row next
 
     -- so that there are as many
     both-count : length (keep (orderOneSeed w) (rightGenerators w)) ≡ ones (bitAnd row next)
@@ -191,3 +188,8 @@ first-grandchildren m two few =
     asked refused w _ record { closed = o .closed; few = omega (arith, o .gapped) }
     ∙ ap given (grandchildren-ordinary w (o .fits) (o .closed) (first-conductor m (omega arith) (omega arith) ∙ sym least) (word-nonzero o (omega arith))
     ∙ ap (λ (n : ℕ). pairs n + 3) least)
+
+-- that of the gaps 1 to 32, of genus 32, has 531
+pub known-first-grandchildren : grandchildrenOf 4294967295 ≡ given 531
+unfolding pairs
+known-first-grandchildren = first-grandchildren 33 (omega arith) (omega arith)

@@ -3,31 +3,22 @@ use Prim.Native.Nat.{ℕ, suc, _+_, _-_, _/_, _%_, _^_, _≤_, _<_}
 use mathlib.Core.Path.{_≡_, sym, ap, ap₂, _∙_, fun-ext}
 use mathlib.Core.Bool.{Bool, true, false, not, _&&_, and-true, and-false}
 use native.Mathlib.Omega.{arith}
-use native.Mathlib.Nat.{le-of-lt, zero-add}
+use native.Mathlib.Nat.{zero-add}
 use native.Mathlib.Decide.{decLt}
 use lib.ListN.{getD, length-map, List·getD-eq-default}
 use borrow.Author.Tests.{le-leb, lt-ltb, le-ltb}
 use Rattle.words.specs.Lists.{run, every}
 use Rattle.words.specs.Sets.{Set, sumOfTwo}
 use Rattle.words.specs.Words.{bit, setOf, conductor, genus}
-use Rattle.words.specs.Elements.{elementAt, multiplicity, generator}
-use Rattle.words.proofs.Lists.{rises, getD-map-run, length-run}
+use Rattle.words.specs.Elements.{elementAt, generator}
+use Rattle.words.proofs.Lists.{getD-map-run, length-run}
 use Rattle.words.proofs.Bits.{bit-low, bit-shr}
 use Rattle.words.proofs.Sets.{sum-found}
-use Rattle.words.proofs.Elements.{conductor-pos, genus-lt-conductor, element-zero, element-in, element-conductor, element-rises, element-from-conductor, multiplicity-element, generator-from-conductor}
+use Rattle.words.proofs.Elements.{element-le-conductor, conductor-pos, genus-lt-conductor, element-zero, element-in, element-rises, element-from-conductor, generator-from-conductor}
 use Rattle.tables.specs.Seeds.{leftAfter, seedOfOrder, seed, row, seedTable}
 use Rattle.tables.proofs.Seeds.{above-left, seed-entry, table-bit}
 
 module _ (w : ℕ) (fits : w < 2 ^ 64) where
-  -- an element of index at most k is at most the conductor
-  pub element-le-conductor : (i : ℕ) → i ≤ conductor w - genus w → elementAt w i ≤ conductor w
-  element-le-conductor i h =
-      omega (arith, rises (elementAt w) (λ j. le-of-lt (element-rises w fits j)) {i = i} {k = conductor w - genus w} h, element-conductor w fits)
-
-  -- so that the multiplicity is below it where k is at least 2
-  pub multiplicity-below : 2 ≤ conductor w - genus w → multiplicity w < conductor w
-  multiplicity-below two = omega (arith, multiplicity-element w fits, element-rises w fits 1, element-le-conductor 2 two)
-
   module _ (i : ℕ) (low : i < conductor w - genus w) (x : ℕ) (high : conductor w ≤ x) where
     -- what is left holds x with the element of index i
     left : leftAfter w i (x + elementAt w i) ≡ true
@@ -41,7 +32,7 @@ module _ (w : ℕ) (fits : w < 2 ^ 64) where
     -- lemma 1.2: an order-i seed is below the conductor plus the length of row i
     pub seed-bound : conductor w + (elementAt w (suc i) - elementAt w i) ≤ x → seedOfOrder w i x ≡ false
     seed-bound far =
-        let next = element-le-conductor (suc i) (omega arith) in
+        let next = element-le-conductor w fits (suc i) (omega arith) in
         let rise = element-rises w fits i in
         let rest : ℕ = x + elementAt w i - elementAt w (suc i) in
         seed-sum ∙ ap not (sum-found (leftAfter w i) (x + elementAt w i) (elementAt w (suc i)) rest (omega arith) (omega arith) (omega arith)
@@ -74,7 +65,7 @@ module _ (w : ℕ) (fits : w < 2 ^ 64) where
     pub row-part : bit (seedTable w / 2 ^ elementAt w i % 2 ^ (elementAt w (suc i) - elementAt w i)) j ≡ seedOfOrder w i (conductor w + j)
     row-part = bit-low (seedTable w / 2 ^ elementAt w i) size j ∙ elim (decLt j size) [
       | yes h ↦ ap₂ _&&_ (bit-shr (seedTable w) (elementAt w i) j
-          ∙ table-bit w fits (elementAt w i + j) (omega (arith, element-le-conductor (suc i) (omega arith))) ∙ sym (seed-entry w fits i j (omega arith)))
+          ∙ table-bit w fits (elementAt w i + j) (omega (arith, element-le-conductor w fits (suc i) (omega arith))) ∙ sym (seed-entry w fits i j (omega arith)))
           (lt-ltb j size h) ∙ and-true (seed w i j) ∙ entry
       | no h ↦ ap (λ (b : Bool). bit (seedTable w / 2 ^ elementAt w i) j && b) (le-ltb j size (omega arith)) ∙ and-false (bit (seedTable w / 2 ^ elementAt w i) j) ∙ past (omega arith)
     ]

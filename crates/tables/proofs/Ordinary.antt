@@ -10,19 +10,13 @@ use native.Mathlib.Decide.{decLe, decLt, ℕ-discrete}
 use borrow.Author.Tests.{not-true}
 use Rattle.words.specs.Lists.{run}
 use Rattle.words.specs.Sets.{without, sumOfTwo}
-use Rattle.words.specs.Words.{setOf, conductor, genus}
-use Rattle.words.specs.Elements.{elementAt, multiplicity, generator, rightGenerators}
+use Rattle.words.specs.Words.{setOf, conductor}
+use Rattle.words.specs.Elements.{multiplicity, generator, rightGenerators}
 use Rattle.words.proofs.Booleans.{is-false, not-both}
 use Rattle.words.proofs.Lists.{run-mem, mem-run}
 use Rattle.words.proofs.Kept.{keep-all}
 use Rattle.words.proofs.Sets.{sum-of, sum-found, sum-without, in-without, without-in}
-use Rattle.words.proofs.Elements.{element-conductor, genus-lt-conductor, element-from-conductor, multiplicity-element, multiplicity-pos, multiplicity-least, generator-from-conductor}
-
--- where k is below 2, the conductor is the multiplicity
-pub ordinary-conductor : (w : ℕ) → w < 2 ^ 64 → conductor w - genus w < 2 → conductor w ≡ multiplicity w
-ordinary-conductor w fits low =
-    let one : conductor w - genus w ≡ 1 = omega (arith, genus-lt-conductor w fits) in
-    sym (element-conductor w fits) ∙ ap (elementAt w) one ∙ sym (multiplicity-element w fits)
+use Rattle.words.proofs.Elements.{element-from-conductor, multiplicity-pos, multiplicity-least, generator-from-conductor}
 
 -- the new generators above x: of 2 m and 2 m + 1 those from x + m on
 abbrev pub newFrom : ℕ → ℕ → List ℕ

@@ -16,9 +16,9 @@ use Rattle.words.specs.Words.{setOf, gaps, genus, conductor, closed}
 use Rattle.words.specs.Elements.{generator}
 use Rattle.words.specs.GenusList.{risings, descendants, descendantCount, Before, Earlier}
 use Rattle.words.specs.GapLists.{setMissing, closedGaps, extensions, Extends, AllGapLists}
-use Rattle.words.proofs.Booleans.{not-both, is-true, is-false, true-together}
+use Rattle.words.proofs.Booleans.{not-both, is-true, is-false}
 use Rattle.words.proofs.Lists.{Rising, rising-nil, rising-cons, rising-tail, keep-mem, mem-keep, every-mem, every-same, every-false, every-append, ordered-parts, ordered-keep, ordered-map, ordered-once, ordered-unique, le-last}
-use Rattle.words.proofs.Sets.{sum-carried, in-without, sum-without, gaps-unique, same-of-gaps, gap-positive, closed-by-gaps}
+use Rattle.words.proofs.Sets.{sums-below, gaps-unique, same-of-gaps, gap-positive, closed-by-gaps}
 use Rattle.words.proofs.Words.{gaps-mem, gaps-of}
 use Rattle.words.proofs.Counting.{gap-bound}
 use Rattle.words.proofs.Elements.{rise-behind, behind-conductor, gap-below-conductor, generator-from-conductor}
@@ -61,12 +61,6 @@ unfolding setMissing every
 missing-more k x y =
     every-append _ k (x ∷ []) ∙ ap (λ (b : Bool). setMissing k y && b) (and-true (not (eqb y x))) ∙ and-comm (setMissing k y) (not (eqb y x))
 
--- no sum up to that gap changes
-same-sums-below : (S : Set) (x n : ℕ) → n ≤ x → sumOfTwo (without x S) n ≡ sumOfTwo S n
-same-sums-below S x n h =
-    true-together (sumOfTwo (without x S) n) (sumOfTwo S n) (sum-without x S n)
-    (sum-carried S (without x S) n (λ a b a-pos b-pos sum a-in b-in. in-without x S (λ e. omega arith) a-in))
-
 -- one gap more behind smaller ones: closed where the list was and the new gap is no sum of two positive elements
 pub closed-more : (k : List ℕ) (x : ℕ) → ((y : ℕ) → List·Memᴰ y k → y < x) → closedGaps (k ++ x ∷ []) ≡ (closedGaps k && not (sumOfTwo (setMissing k) x))
 unfolding closedGaps every
@@ -75,8 +69,8 @@ closed-more k x h =
     let q : ℕ → Bool = λ y. not (sumOfTwo (without x (setMissing k)) y) in
     ap (λ (S : Set). every (λ y. not (sumOfTwo S y)) (k ++ x ∷ [])) (fun-ext (missing-more k x))
     ∙ every-append q k (x ∷ [])
-    ∙ ap₂ _&&_ (every-same q p k (λ y m. ap not (same-sums-below (setMissing k) x y (omega (arith, h y m)))))
-    (and-true (q x) ∙ ap not (same-sums-below (setMissing k) x x (omega arith)))
+    ∙ ap₂ _&&_ (every-same q p k (λ y m. ap not (sums-below x (setMissing k) y (omega (arith, h y m)))))
+    (and-true (q x) ∙ ap not (sums-below x (setMissing k) x (omega arith)))
 
 -- a rising list of positive numbers is closed just where it is the gap list of a numerical semigroup
 pub closed-gaps-iff : (l : List ℕ) → Ordered _<_ l → ((x : ℕ) → List·Memᴰ x l → 0 < x) → (closedGaps l ≡ true) ↔ NumericalSemigroup (setMissing l)

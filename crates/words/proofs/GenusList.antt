@@ -23,6 +23,7 @@ use Rattle.words.proofs.Closure.{closed-iff, closed-semigroup}
 abbrev pub Chosen : ℕ → ℕ → ℕ → List ℕ → Type 0
 Chosen r lo hi l = Rising lo (suc hi) l × (length l ≡ r)
 
+-- it holds only these
 pub risings-mem : (r lo hi : ℕ) {l : List ℕ} → List·Memᴰ l (risings r lo hi) → Chosen r lo hi l
 unfolding risings
 risings-mem zero lo hi m = subst (Chosen 0 lo hi) (sym (List·Memᴰ·eq-of-singleton m)) (rising-nil, refl)
@@ -33,6 +34,7 @@ risings-mem (suc r) lo hi m =
     let h = risings-mem r (suc x) hi j in
     subst (Chosen (suc r) lo hi) e (rising-cons (b .0) (omega arith) (h .0), ap suc (h .1))
 
+-- and all of them
 pub mem-risings : (r lo hi : ℕ) (l : List ℕ) → Chosen r lo hi l → List·Memᴰ l (risings r lo hi)
 unfolding risings
 mem-risings zero lo hi [] c = List·Memᴰ·head refl
@@ -128,6 +130,7 @@ ordered-behind x l o = ordered-map Before Before (λ k. x ∷ k) l o (λ k m i j
 
 -- ---- the order of the genus list
 
+-- rising lists are in list order
 pub risings-ordered : (r lo hi : ℕ) → Ordered Before (risings r lo hi)
 unfolding risings Before
 risings-ordered zero lo hi = ordered-one Before []
