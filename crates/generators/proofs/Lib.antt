@@ -4,6 +4,7 @@ pub mod Few
 pub mod Writing
 pub mod MinimalGenerators
 pub mod WordFrom
+pub mod SameAnswers
 pub mod Membership
 pub mod Scan
 pub mod LowGenerators

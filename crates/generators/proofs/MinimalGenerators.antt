@@ -20,8 +20,7 @@ use Rattle.words.proofs.Closure.{closed-iff, conductor-le-64}
 use Rattle.generators.specs.Divisors.{gcdOf}
 use Rattle.generators.specs.Sums.{SumOf, spans}
 use Rattle.generators.specs.Generators.{minimalGenerators}
-use Rattle.generators.proofs.Divisors.{gcd-divides}
-use Rattle.generators.proofs.Sums.{sum-zero, sum-add, sum-member, sum-split, spans-iff, sum-in, divides-sum}
+use Rattle.generators.proofs.Sums.{sum-zero, sum-add, sum-member, sum-split, spans-iff, sum-in, gcd-divides-sum}
 
 module _ (w : ℕ) (fits : w < 2 ^ 64) where
   -- the list holds just the generators
@@ -123,7 +122,7 @@ module _ (w : ℕ) (fits : w < 2 ^ 64) where
       let c : ℕ = conductor w in
       let d : ℕ = gcdOf (minimalGenerators w) in
       let divides : (x : ℕ) → c ≤ x → d ∣ x =
-      λ x h. divides-sum (minimalGenerators w) d (λ a m. gcd-divides (minimalGenerators w) m) x (element-sum x (element-from-conductor w fits x h)) in
+      λ x h. gcd-divides-sum (minimalGenerators w) x (element-sum x (element-from-conductor w fits x h)) in
       eq-one-of-dvd-one (dvd-add-iff-right _ (divides c (le-refl c)) .1 (divides (c + 1) (omega arith)))
 
   -- no other list generates the set with less: each whose sums are the elements holds all minimal generators

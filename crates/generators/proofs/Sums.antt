@@ -12,7 +12,9 @@ use Rattle.words.specs.Lists.{every, sumOver}
 use Rattle.words.specs.Sets.{Set, ClosedUnderAddition}
 use Rattle.words.proofs.Booleans.{not-both, is-false}
 use Rattle.words.proofs.Lists.{every-mem, every-false, sum-append}
-use Rattle.generators.specs.Sums.{SumOf, further, sumsDown, spans}
+use Rattle.generators.specs.Divisors.{gcdOf}
+use Rattle.generators.specs.Sums.{SumOf, SumsOf, further, sumsDown, spans}
+use Rattle.generators.proofs.Divisors.{gcd-divides}
 
 -- ---- sums
 
@@ -102,6 +104,10 @@ module _ (A : List ℕ) where
   unfolding spans
   spans-iff x = (λ e. subst (SumOf A) (sub-zero x) (entry-sum x 0 e .1), λ s. sum-entry x 0 x (zero-add x) s)
 
+  -- 0 is in it
+  pub spans-zero : spans A 0 ≡ true
+  spans-zero = spans-iff 0 .1 sum-zero
+
   -- sums of sums are sums
   pub spans-closed : ClosedUnderAddition (spans A)
   spans-closed a b p q = spans-iff (a + b) .1 (sum-add (spans-iff a .0 p) (spans-iff b .0 q))
@@ -123,3 +129,15 @@ module _ (A : List ℕ) where
       go : (l : List ℕ) → ((a : ℕ) → List·Memᴰ a l → List·Memᴰ a A) → d ∣ total l
       go [] members = dvd-zero d
       go (a ∷ l) members = dvd-add _ (divides a (members a (List·Memᴰ·head refl))) (go l (λ b m. members b (List·Memᴰ·tail m)))
+
+  -- so does the greatest common divisor
+  pub gcd-divides-sum : (x : ℕ) → SumOf A x → gcdOf A ∣ x
+  gcd-divides-sum x s = divides-sum (gcdOf A) (λ a m. gcd-divides A m) x s
+
+-- a member is a sum: of a list with all members of A, all members of A are sums
+pub sums-of-members : (A B : List ℕ) → ((a : ℕ) → List·Memᴰ a A → List·Memᴰ a B) → SumsOf A B
+sums-of-members A B within a m = sum-member B (within a m)
+
+-- sums of sums: where the members of A are sums of B, so are the sums of A
+pub sums-of-sums : (A B : List ℕ) → SumsOf A B → (x : ℕ) → SumOf A x → SumOf B x
+sums-of-sums A B there x s = spans-iff B x .0 (sum-in A (spans B) (spans-zero B) (spans-closed B) (λ a m. spans-iff B a .1 (there a m)) x s)

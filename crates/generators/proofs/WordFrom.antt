@@ -20,7 +20,7 @@ use Rattle.words.proofs.Closure.{closed-iff}
 use Rattle.generators.specs.Divisors.{gcdOf}
 use Rattle.generators.specs.Sums.{spans, AtMostGaps, Positive, WordOfSums}
 use Rattle.generators.specs.Generators.{minimalGenerators, generatorsOf, fewGaps, wordFromOf}
-use Rattle.generators.proofs.Sums.{sum-zero, spans-iff, spans-closed}
+use Rattle.generators.proofs.Sums.{spans-zero, spans-closed}
 use Rattle.generators.proofs.Few.{gap-below-64, gaps-to-le, few-iff}
 use Rattle.generators.proofs.MinimalGenerators.{generators-mem, mem-generators, generators-span, generators-gcd, generators-least}
 use Rattle.words.proofs.Answers.{first-no, second-no, third-no, all-yes, list-given, room}
@@ -28,14 +28,11 @@ use Rattle.words.proofs.Answers.{first-no, second-no, third-no, all-yes, list-g
 -- ---- the questions
 
 module _ (A : List ℕ) where
-  spans-zero : spans A 0 ≡ true
-  spans-zero = spans-iff A 0 .1 (sum-zero A)
-
   -- the test of the number of gaps decides whether there are at most 32, of all numbers
   pub few-gaps-iff : (fewGaps A ≡ true) ↔ AtMostGaps 32 (spans A)
   unfolding fewGaps
   few-gaps-iff =
-      let r = few-iff (spans A) spans-zero (spans-closed A) in
+      let r = few-iff (spans A) (spans-zero A) (spans-closed A) in
       (λ e. r .0 (leb-true _ 32 e), λ h. le-leb _ 32 (r .1 h))
 
   -- the word of the sums, where all their gaps are at most 64
@@ -75,8 +72,8 @@ module _ (A : List ℕ) where
 
   few-word : AtMostGaps 32 (spans A) → (wordOf (gapsTo (spans A) 64) < 2 ^ 64) × ((x : ℕ) → setOf (wordOf (gapsTo (spans A) 64)) x ≡ spans A x)
   few-word few =
-      let short = few-iff (spans A) spans-zero (spans-closed A) .1 few in
-      word-of-set (spans A) spans-zero (λ x e. omega (arith, gap-below-64 (spans A) spans-zero (spans-closed A) short x e))
+      let short = few-iff (spans A) (spans-zero A) (spans-closed A) .1 few in
+      word-of-set (spans A) (spans-zero A) (λ x e. omega (arith, gap-below-64 (spans A) (spans-zero A) (spans-closed A) short x e))
 
   -- else the word whose set is that of the sums
   pub answered-word : (w : ℕ) → (wordFromOf A ≡ given w) ↔ WordOfSums A w
@@ -91,6 +88,13 @@ module _ (A : List ℕ) where
         let (fits, same) = few-word (s .few) in
         rw (positive-iff A .1 (s .positive), eq-eqb (gcdOf A) 1 (s .coprime), few-gaps-iff .1 (s .few))
         (ap given (same-set (wordOf (gapsTo (spans A) 64)) w fits (s .fits) (λ x. same x ∙ sym (s .same x)))),
+  )
+
+  -- so that A is accepted just where all three are answered yes
+  pub accepted-generators-iff : ((w : ℕ) × (wordFromOf A ≡ given w)) ↔ (Positive A × (gcdOf A ≡ 1) × AtMostGaps 32 (spans A))
+  accepted-generators-iff = (
+    λ (w, e). let s = answered-word w .0 e in (s .positive, s .coprime, s .few),
+    λ (p, g, few). let (fits, same) = few-word few in (word, answered-word word .1 (record { positive = p; coprime = g; few = few; fits = fits; same = same })),
   )
 
 -- ---- there and back
