@@ -1,6 +1,7 @@
 -- The known generators, computed from the definitions. Assumes nothing.
+use Prim.Native.Nat.{ℕ}
 use mathlib.Core.Path.{_≡_, refl}
-use mathlib.Core.List.{[], _∷_, map}
+use mathlib.Core.List.{List, [], _∷_, _++_, map}
 use Rattle.words.specs.Lists.{run, keep, keepIf, every, lastOr, fronted}
 use Rattle.words.specs.Sets.{sumOfTwo, gapsTo}
 use Rattle.words.specs.Words.{bit, setOf, gaps, genus, largestGap, conductor, closed, wordOf}
@@ -9,6 +10,7 @@ use Rattle.words.specs.Answers.{refused, given, askWord, unchanged, listedInto,
 use Rattle.generators.specs.Divisors.{euclid, gcd, gcdOf}
 use Rattle.generators.specs.Sums.{further, sumsDown, spans}
 use Rattle.generators.specs.Generators.{minimalGenerators, generatorsOf, fewGaps, wordFromOf}
+use Rattle.generators.specs.Joining.{reducedBy, reduced, inStages}
 
 -- the words 0 and 91
 pub known-generators : map minimalGenerators (0 ∷ 91 ∷ []) ≡ (1 ∷ []) ∷ (3 ∷ 8 ∷ 10 ∷ []) ∷ []
@@ -26,3 +28,35 @@ pub known-listings : (generatorsOf 91 (1 ∷ 2 ∷ 4 ∷ 7 ∷ []) ≡ giving 3 
     × (generatorsOf 91 (1 ∷ 2 ∷ []) ≡ unchanged (1 ∷ 2 ∷ []) 6) × (generatorsOf 13 [] ≡ unchanged [] 2)
 unfolding run keep keepIf every lastOr sumOfTwo bit setOf gaps genus largestGap conductor closed multiplicity generator minimalGenerators fronted askWord listedInto generatorsOf
 known-listings = (refl, refl, refl)
+
+-- ---- joined lists
+
+-- two lists
+abbrev A : List ℕ
+A = 3 ∷ 8 ∷ 10 ∷ []
+
+abbrev B : List ℕ
+B = 7 ∷ 3 ∷ []
+
+-- the sums up to 10 of A joined with B, in either order
+pub known-sums : map (λ l. keep (spans l) (run 0 11)) ((A ++ B) ∷ (B ++ A) ∷ []) ≡ (0 ∷ 3 ∷ 6 ∷ 7 ∷ 8 ∷ 9 ∷ 10 ∷ []) ∷ (0 ∷ 3 ∷ 6 ∷ 7 ∷ 8 ∷ 9 ∷ 10 ∷ []) ∷ []
+unfolding run keep keepIf every further sumsDown spans
+known-sums = refl
+
+-- A has the word 91; with B it has 27, in either order and by the minimal generators of 91; with itself it has 91
+pub known-joins : (wordFromOf A ≡ given 91) × (wordFromOf (A ++ B) ≡ given 27) × (wordFromOf (B ++ A) ≡ given 27)
+    × (wordFromOf (minimalGenerators 91 ++ B) ≡ given 27) × (wordFromOf (A ++ A) ≡ given 91)
+unfolding run keep keepIf every lastOr sumOfTwo bit setOf gaps largestGap conductor multiplicity generator minimalGenerators wordOf euclid gcd gcdOf further sumsDown spans gapsTo fewGaps wordFromOf
+known-joins = (refl, refl, refl, refl, refl)
+
+-- 1 alone and 0 with it: 0 is the sum of no members, so that their members are sums of each other's; but 0 is in one of them
+pub known-with-zero : map wordFromOf ((1 ∷ []) ∷ (0 ∷ 1 ∷ []) ∷ []) ≡ given 0 ∷ refused 7 ∷ []
+unfolding run keep keepIf every wordOf euclid gcd gcdOf further sumsDown spans gapsTo fewGaps wordFromOf
+known-with-zero = refl
+
+-- 6 and 10, then 55, then 15, then 4 and 255: refused 8, refused 9, then reduced to 6, 10 and 15, then to 4, 6 and 15
+pub known-stages : (map wordFromOf ((6 ∷ 10 ∷ []) ∷ (6 ∷ 10 ∷ 55 ∷ []) ∷ (6 ∷ 10 ∷ 55 ∷ 15 ∷ 4 ∷ 255 ∷ []) ∷ []) ≡ refused 8 ∷ refused 9 ∷ given 70999 ∷ [])
+    × (inStages [] ((6 ∷ 10 ∷ []) ∷ (55 ∷ []) ∷ (15 ∷ []) ∷ []) ≡ 6 ∷ 10 ∷ 15 ∷ [])
+    × (inStages [] ((6 ∷ 10 ∷ []) ∷ (55 ∷ []) ∷ (15 ∷ []) ∷ (4 ∷ 255 ∷ []) ∷ []) ≡ 4 ∷ 6 ∷ 15 ∷ [])
+unfolding run keep keepIf every lastOr sumOfTwo bit setOf gaps largestGap conductor multiplicity generator minimalGenerators wordOf euclid gcd gcdOf further sumsDown spans gapsTo fewGaps wordFromOf reducedBy reduced inStages
+known-stages = (refl, refl, refl)

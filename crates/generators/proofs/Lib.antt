@@ -5,6 +5,7 @@ pub mod Writing
 pub mod MinimalGenerators
 pub mod WordFrom
 pub mod SameAnswers
+pub mod Joining
 pub mod Membership
 pub mod Scan
 pub mod LowGenerators
