@@ -1,6 +1,6 @@
-// Runs further cases of the papers on what comes after the walk: generators both ways, elementary counts, Kunz coordinates both ways, the
-// requests of the listing program and the listing of genus 0. What it prints is held to the stored file, which was computed apart from the
-// plain definitions.
+// Runs further cases of the papers on what comes after the walk: generators both ways, joined lists of them, elementary counts, Kunz
+// coordinates both ways, the requests of the listing program and the listing of genus 0. What it prints is held to the stored file, which
+// was computed apart from the plain definitions.
 use libc::STDOUT_FILENO;
 use listing::ListingAnswer;
 use listing::PageAnswer;
@@ -143,6 +143,28 @@ fn refused_generators() {
     show_word_from(&[0]);
 }
 
+// 10, 3, 8, 3, 10, 16, which has the word 91, and 7, 3, 255: joined, in the other order, with the minimal generators of 91 for the first; the
+// first with itself, and with 0.
+fn joined_lists() {
+    show_word_from(&[10, 3, 8, 3, 10, 16, 7, 3, 255]);
+    show_word_from(&[7, 3, 255, 10, 3, 8, 3, 10, 16]);
+    show_generators(91);
+    show_word_from(&[3, 8, 10, 7, 3, 255]);
+    show_word_from(&[10, 3, 8, 3, 10, 16, 10, 3, 8, 3, 10, 16]);
+    show_word_from(&[10, 3, 8, 3, 10, 16, 0]);
+}
+
+// 6, 10, then 55, then 15, then 4, 255, each joined to what is held, which is reduced where it has a word; then all at once.
+fn lists_in_stages() {
+    show_word_from(&[6, 10]);
+    show_word_from(&[6, 10, 55]);
+    show_word_from(&[6, 10, 55, 15]);
+    show_generators(272971231);
+    show_word_from(&[6, 10, 15, 4, 255]);
+    show_generators(70999);
+    show_word_from(&[6, 10, 55, 15, 4, 255]);
+}
+
 fn elementary_counts() {
     show_elementary(7, 5);
     show_elementary(10, 5);
@@ -212,6 +234,8 @@ fn main() {
     generators_out();
     words_back();
     refused_generators();
+    joined_lists();
+    lists_in_stages();
     elementary_counts();
     coordinates_out();
     coordinates_back();
