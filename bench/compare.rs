@@ -847,30 +847,141 @@ fn words_from_coordinates(n: u64, words: &Words, r: &mut Random) -> Kind {
     kind
 }
 
+/// A list of generators: the minimal ones of a word or random ones, up to three times changed by a byte more, a repeat, a byte less or the
+/// other order.
+fn random_generators(words: &Words, r: &mut Random) -> Vec<u8> {
+    let mut list: Vec<u8> = match r.below(3) {
+        0 => minimal_generators(words.valid(r)),
+        1 => (0..r.below(6)).map(|_| 1 + r.below(70) as u8).collect(),
+        _ => (0..r.below(12)).map(|_| r.next() as u8).collect(),
+    };
+    for _ in 0..r.below(4) {
+        match r.below(4) {
+            0 => list.push(if r.below(9) == 0 { 0 } else { r.next() as u8 }),
+            1 if !list.is_empty() => {
+                let i = r.below(list.len() as u64) as usize;
+                list.push(list[i]);
+            }
+            2 if !list.is_empty() => {
+                let i = r.below(list.len() as u64) as usize;
+                list.remove(i);
+            }
+            _ => list.reverse(),
+        }
+    }
+    list
+}
+
 fn words_from(n: u64, words: &Words, r: &mut Random) -> Kind {
     let mut kind = Kind::new("word from generators");
     for _ in 0..n {
-        let mut list: Vec<u8> = match r.below(3) {
-            0 => minimal_generators(words.valid(r)),
-            1 => (0..r.below(6)).map(|_| 1 + r.below(70) as u8).collect(),
-            _ => (0..r.below(12)).map(|_| r.next() as u8).collect(),
-        };
-        for _ in 0..r.below(4) {
-            match r.below(4) {
-                0 => list.push(if r.below(9) == 0 { 0 } else { r.next() as u8 }),
-                1 if !list.is_empty() => {
-                    let i = r.below(list.len() as u64) as usize;
-                    list.push(list[i]);
-                }
-                2 if !list.is_empty() => {
-                    let i = r.below(list.len() as u64) as usize;
-                    list.remove(i);
-                }
-                _ => list.reverse(),
+        let list = random_generators(words, r);
+        kind.same(generated(&list), word_from(&list), &|| format!("{list:?}"));
+    }
+    kind
+}
+
+/// What the call answers to a list of generators.
+fn generated(list: &[u8]) -> Number {
+    unsafe { atlas_word_from(list.as_ptr(), list.len()) }
+}
+
+/// The minimal generators of an accepted word, by the call.
+fn reduced(word: u64) -> Vec<u8> {
+    let mut out = [0; 33];
+    let number = unsafe { atlas_generators(word, out.as_mut_ptr(), out.len()) };
+    assert!(number.refused == 0, "the generators of {word}");
+    out[..number.value as usize].to_vec()
+}
+
+/// Two lists A and B: A joined with B, B with A, A with itself, and where A is accepted the minimal generators of its word with B; then A with
+/// B is accepted just where B has no 0. Each answer for A, and B with and without 0, are met.
+fn joins(n: u64, words: &Words, r: &mut Random) -> Kind {
+    let mut kind = Kind::new("joined generators");
+    let mut met = [0u64; 12];
+    for _ in 0..n {
+        let (a, b) = (random_generators(words, r), random_generators(words, r));
+        let asked = || format!("{a:?} {b:?}");
+        let alone = word_from(&a);
+        let both = word_from(&[&a[..], &b].concat());
+        met[if alone.refused == 0 && b.contains(&0) { 1 } else { alone.refused as usize }] += 1;
+        kind.same(generated(&[&a[..], &b].concat()), both, &asked);
+        kind.same(generated(&[&b[..], &a].concat()), both, &asked);
+        kind.same(generated(&[&a[..], &a].concat()), alone, &asked);
+        if alone.refused == 0 {
+            let answer = generated(&[&reduced(alone.value)[..], &b].concat());
+            kind.same((answer, answer.refused), (both, if b.contains(&0) { 7 } else { 0 }), &asked);
+        }
+    }
+    assert!([0, 1, 7, 8, 9].iter().all(|&q| met[q] > n / 100), "each answer is met: {met:?}");
+    kind
+}
+
+/// Up to six lists, joined to what is held one after the other and reduced where the call gives a word: after each the answer is that of all
+/// so far, and at the end the generators of its word are held. Each answer is met at the end.
+fn stages(n: u64, words: &Words, r: &mut Random) -> Kind {
+    let mut kind = Kind::new("generators in stages");
+    let mut met = [0u64; 10];
+    for _ in 0..n {
+        let mut all = Vec::new();
+        let mut held = Vec::new();
+        for _ in 0..r.below(7) {
+            let mut list = random_generators(words, r);
+            list.truncate(r.below(5) as usize);
+            all.extend_from_slice(&list);
+            held.extend_from_slice(&list);
+            let answer = generated(&held);
+            kind.same(answer, word_from(&all), &|| format!("{held:?} of {all:?}"));
+            if answer.refused == 0 {
+                held = reduced(answer.value);
             }
         }
-        kind.same(unsafe { atlas_word_from(list.as_ptr(), list.len()) }, word_from(&list), &|| format!("{list:?}"));
+        let plain = word_from(&all);
+        met[plain.refused as usize] += 1;
+        let left = if plain.refused == 0 { minimal_generators(plain.value) } else { held.clone() };
+        kind.same((generated(&held), &held), (plain, &left), &|| format!("{all:?}"));
     }
+    assert!([0, 7, 8, 9].iter().all(|&q| met[q] > n / 100), "each answer is met: {met:?}");
+    kind
+}
+
+/// Is x a sum of members of the list?
+fn is_sum(list: &[u8], x: u8) -> bool {
+    let mut sums = vec![true];
+    for n in 1..=x as usize {
+        sums.push(list.iter().any(|&a| a > 0 && a as usize <= n && sums[n - a as usize]));
+    }
+    sums[x as usize]
+}
+
+/// A list, and one made of it: sums of two members are added, positive members that are sums of the others are left out, and the first ones go
+/// to the end. They get the same answer; each answer is met.
+fn same_sums(n: u64, words: &Words, r: &mut Random) -> Kind {
+    let mut kind = Kind::new("generators with the same sums");
+    let mut met = [0u64; 10];
+    for _ in 0..n {
+        let list = random_generators(words, r);
+        let mut other = list.clone();
+        let changes = if list.is_empty() { 0 } else { r.below(6) };
+        for _ in 0..changes {
+            let i = r.below(other.len() as u64) as usize;
+            let j = r.below(other.len() as u64) as usize;
+            match other[i].checked_add(other[j]) {
+                None | Some(0) => {}
+                Some(sum) => other.push(sum),
+            }
+        }
+        for _ in 0..changes {
+            let x = other.remove(0);
+            if x == 0 || !is_sum(&other, x) {
+                other.push(x);
+            }
+        }
+        let plain = word_from(&list);
+        met[plain.refused as usize] += 1;
+        kind.same(generated(&other), plain, &|| format!("{list:?} {other:?}"));
+    }
+    assert!([0, 7, 8, 9].iter().all(|&q| met[q] > n / 100), "each answer is met: {met:?}");
     kind
 }
 
@@ -1031,6 +1142,9 @@ fn main() {
         counts(10_000, &words, &mut r),
         listed(Kind::new("generators"), atlas_generators, minimal_generators, 100_000, &words, &mut r),
         words_from(150_000, &words, &mut r),
+        joins(50_000, &words, &mut r),
+        stages(50_000, &words, &mut r),
+        same_sums(50_000, &words, &mut r),
         elementaries(50_000, &words, &mut r),
         listed(Kind::new("coordinates"), atlas_kunz, coordinates, 150_000, &words, &mut r),
         words_from_coordinates(200_000, &words, &mut r),

@@ -177,6 +177,29 @@ static void generators(void) {
   CHECK(number_is(atlas_word_from((uint8_t[]){2, 67}, 2), 9, 0));
 }
 
+/* Joins a list to the first `held` bytes of another, which has room for it, and reduces them to the minimal generators of their word where
+   they have one: how many bytes are held then. */
+static size_t stage(uint8_t *list, size_t held, const uint8_t *more, size_t length) {
+  memcpy(list + held, more, length);
+  atlas_number word = atlas_word_from(list, held + length);
+  return word.refused ? held + length : atlas_generators(word.value, list, ATLAS_MOST_GENERATORS).value;
+}
+
+/* Four lists of generators in stages: the first two are refused and held as they are. All of them at once give the same word. */
+static void generators_in_stages(void) {
+  uint8_t list[64];
+  size_t held = stage(list, 0, (uint8_t[]){6, 10}, 2);
+  CHECK(held == 2 && !memcmp(list, (uint8_t[]){6, 10}, 2));
+  held = stage(list, held, (uint8_t[]){55}, 1);
+  CHECK(held == 3 && !memcmp(list, (uint8_t[]){6, 10, 55}, 3));
+  held = stage(list, held, (uint8_t[]){15}, 1);
+  CHECK(held == 3 && !memcmp(list, (uint8_t[]){6, 10, 15}, 3));
+  held = stage(list, held, (uint8_t[]){4, 255}, 2);
+  CHECK(held == 3 && !memcmp(list, (uint8_t[]){4, 6, 15}, 3));
+  CHECK(number_is(atlas_word_from(list, held), 0, 70999));
+  CHECK(number_is(atlas_word_from((uint8_t[]){6, 10, 55, 15, 4, 255}, 6), 0, 70999));
+}
+
 static void coordinates(void) {
   uint8_t out[4] = {9, 9, 9, 9};
   CHECK(number_is(atlas_kunz(too_many, out, 4), 1, 0));
@@ -226,6 +249,7 @@ int main(void) {
   refused_batches();
   counts();
   generators();
+  generators_in_stages();
   coordinates();
   searches();
   printf("calls: %u checks, %u failed\n", checks, failures);

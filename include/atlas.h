@@ -119,7 +119,8 @@ atlas_number atlas_count(uint64_t word, uint64_t genus);
 /* Writes the minimal generators of a word to the front of `out`, in rising order, and gives their number. Refusals 1, 2, 6. */
 atlas_number atlas_generators(uint64_t word, uint8_t *out, size_t length);
 
-/* The word of all sums of the given generators; repeats and any order are allowed. Refusals 7, 8, 9. */
+/* The word of all sums of the given generators; repeats and any order are allowed. Long lists may be joined in stages, and what is held
+   be reduced to the minimal generators of its word whenever it has one: the answer is that of all joined at once. Refusals 7, 8, 9. */
 atlas_number atlas_word_from(const uint8_t *list, size_t length);
 
 /* The Kunz coordinates of an accepted word are one less than its multiplicity: a list of 32 places always holds them. */
