@@ -54,9 +54,8 @@ pub known-with-zero : map wordFromOf ((1 ∷ []) ∷ (0 ∷ 1 ∷ []) ∷ []) �
 unfolding run keep keepIf every wordOf euclid gcd gcdOf further sumsDown spans gapsTo fewGaps wordFromOf
 known-with-zero = refl
 
--- 6 and 10, then 55, then 15, then 4 and 255: refused 8, refused 9, then reduced to 6, 10 and 15, then to 4, 6 and 15
-pub known-stages : (map wordFromOf ((6 ∷ 10 ∷ []) ∷ (6 ∷ 10 ∷ 55 ∷ []) ∷ (6 ∷ 10 ∷ 55 ∷ 15 ∷ 4 ∷ 255 ∷ []) ∷ []) ≡ refused 8 ∷ refused 9 ∷ given 70999 ∷ [])
-    × (inStages [] ((6 ∷ 10 ∷ []) ∷ (55 ∷ []) ∷ (15 ∷ []) ∷ []) ≡ 6 ∷ 10 ∷ 15 ∷ [])
-    × (inStages [] ((6 ∷ 10 ∷ []) ∷ (55 ∷ []) ∷ (15 ∷ []) ∷ (4 ∷ 255 ∷ []) ∷ []) ≡ 4 ∷ 6 ∷ 15 ∷ [])
+-- 6 and 10, which are refused 8, then 55, with which they are refused 9, then 15: reduced to 6, 10 and 15; then 4 and 255: reduced to 4, 6, 15
+pub known-stages : (inStages [] ((6 ∷ 10 ∷ []) ∷ (55 ∷ []) ∷ (15 ∷ []) ∷ []) ≡ 6 ∷ 10 ∷ 15 ∷ [])
+    × (inStages (6 ∷ 10 ∷ 15 ∷ []) ((4 ∷ 255 ∷ []) ∷ []) ≡ 4 ∷ 6 ∷ 15 ∷ [])
 unfolding run keep keepIf every lastOr sumOfTwo bit setOf gaps largestGap conductor multiplicity generator minimalGenerators wordOf euclid gcd gcdOf further sumsDown spans gapsTo fewGaps wordFromOf reducedBy reduced inStages
-known-stages = (refl, refl, refl)
+known-stages = (refl, refl)

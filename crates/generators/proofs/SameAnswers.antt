@@ -52,7 +52,7 @@ positive-together A B (to, from) = true-together (every (ltb 0) A) (every (ltb 0
 pub neither-zero : (A B : List ℕ) → Positive A → Positive B → List·Memᴰ 0 A ↔ List·Memᴰ 0 B
 neither-zero A B p q = (λ m. absurd (omega (arith, p 0 m)), λ m. absurd (omega (arith, q 0 m)))
 
--- they get the same answer, refusals too, where 0 is in both or in neither. That has to be asked, as 0 is the sum of no members: of any list
+-- they get the same answer, refusals too, where 0 is in both or in neither: that is asked apart, as 0, the sum of none, is a sum of every list
 pub same-answer : (A B : List ℕ) → SumsOf A B → SumsOf B A → List·Memᴰ 0 A ↔ List·Memᴰ 0 B → wordFromOf A ≡ wordFromOf B
 unfolding wordFromOf fewGaps
 same-answer A B there back zero =

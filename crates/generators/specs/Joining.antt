@@ -20,7 +20,7 @@ pub record Joinable (A : List ℕ) (w : ℕ) (B : List ℕ) : Type 0 where
   pub gives : wordFromOf A ≡ given w
   pub no-zero : ¬ List·Memᴰ 0 B
 
--- the sentences of request 2026-07, for all such lists
+-- the sentences of request 2026-07 on two lists, for all such lists
 pub record Joining : Type 0 where
   -- when A is accepted and B has no 0, A joined with B is accepted
   pub joined-accepted : (A B : List ℕ) (w : ℕ) → Joinable A w B → (v : ℕ) × (wordFromOf (A ++ B) ≡ given v)
@@ -28,7 +28,7 @@ pub record Joining : Type 0 where
   pub either-order : (A B : List ℕ) (w : ℕ) → Joinable A w B → wordFromOf (A ++ B) ≡ wordFromOf (B ++ A)
   -- and as the minimal generators of A's word joined with B, which are bytes too
   pub by-generators : (A B : List ℕ) (w : ℕ) → Joinable A w B → Bytes (minimalGenerators w ++ B) × (wordFromOf (A ++ B) ≡ wordFromOf (minimalGenerators w ++ B))
-  -- those that the call for the generators lists
+  -- and as those that the call for the generators lists, joined with B
   pub by-listed : (A B : List ℕ) (w : ℕ) → Joinable A w B → (lent l : List ℕ) (n : ℕ) → generatorsOf w lent ≡ giving n l
       → wordFromOf (A ++ B) ≡ wordFromOf (take n l ++ B)
   -- joining A with itself gives A's word
@@ -54,7 +54,7 @@ inStages held (A ∷ lists) = inStages (reduced (held ++ A)) lists
 abbrev pub atOnce : List (List ℕ) → List ℕ
 atOnce lists = joined (λ A. A) lists
 
--- its first sentence, that people join long lists of generators and reduce them in stages: what holds of any lists
+-- people join long lists of generators and reduce them in stages (the first sentence of the request): what holds of any lists
 pub record Stages : Type 0 where
   -- in stages they get the answer of all joined at once, refusals too
   pub as-at-once : (lists : List (List ℕ)) → wordFromOf (inStages [] lists) ≡ wordFromOf (atOnce lists)
