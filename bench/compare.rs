@@ -847,12 +847,16 @@ fn words_from_coordinates(n: u64, words: &Words, r: &mut Random) -> Kind {
     kind
 }
 
-/// A list of generators: the minimal ones of a word or random ones, up to three times changed by a byte more, a repeat, a byte less or the
-/// other order.
+/// A list of generators: the minimal ones of a word, random ones or a long list, up to three times changed by a byte more, a repeat, a byte
+/// less or the other order.
 fn random_generators(words: &Words, r: &mut Random) -> Vec<u8> {
-    let mut list: Vec<u8> = match r.below(3) {
-        0 => minimal_generators(words.valid(r)),
-        1 => (0..r.below(6)).map(|_| 1 + r.below(70) as u8).collect(),
+    let mut list: Vec<u8> = match r.below(64) {
+        0 => {
+            let (first, step) = (r.below(255), r.below(255));
+            (0..r.below(600)).map(|i| (1 + (first + i * step) % 255) as u8).collect()
+        }
+        1..=21 => minimal_generators(words.valid(r)),
+        22..=42 => (0..r.below(6)).map(|_| 1 + r.below(70) as u8).collect(),
         _ => (0..r.below(12)).map(|_| r.next() as u8).collect(),
     };
     for _ in 0..r.below(4) {
@@ -917,8 +921,8 @@ fn joins(n: u64, words: &Words, r: &mut Random) -> Kind {
     kind
 }
 
-/// Up to six lists, joined to what is held one after the other and reduced where the call gives a word: after each the answer is that of all
-/// so far, and at the end the generators of its word are held. Each answer is met at the end.
+/// Up to six lists, most of them short, joined to what is held one after the other and reduced where the call gives a word: after each the
+/// answer is that of all so far, and at the end the generators of its word are held. Each answer is met at the end.
 fn stages(n: u64, words: &Words, r: &mut Random) -> Kind {
     let mut kind = Kind::new("generators in stages");
     let mut met = [0u64; 10];
@@ -927,7 +931,9 @@ fn stages(n: u64, words: &Words, r: &mut Random) -> Kind {
         let mut held = Vec::new();
         for _ in 0..r.below(7) {
             let mut list = random_generators(words, r);
-            list.truncate(r.below(5) as usize);
+            if r.below(8) > 0 {
+                list.truncate(r.below(5) as usize);
+            }
             all.extend_from_slice(&list);
             held.extend_from_slice(&list);
             let answer = generated(&held);

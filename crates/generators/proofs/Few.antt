@@ -9,10 +9,14 @@ use lib.Dec.{ltb}
 use lib.ListN.{length}
 use borrow.Author.Tests.{ltb-true, ltb-false, not-true}
 use Rattle.words.specs.Sets.{Set, ClosedUnderAddition, gapsTo}
-use Rattle.words.proofs.Booleans.{not-both, is-true, by-value}
+use Rattle.words.proofs.Booleans.{not-both, is-true, is-false, by-value}
 use Rattle.words.proofs.Sets.{gap-positive, mem-gaps-to, gaps-to-ordered}
 use Rattle.words.proofs.Counting.{count-up, count-le-length, half-gaps, gaps-to-count}
 use Rattle.generators.specs.Sums.{AtMostGaps}
+
+-- a set with more elements has at most as many gaps
+pub fewer-gaps : (S T : Set) → ((x : ℕ) → S x ≡ true → T x ≡ true) → (n : ℕ) → AtMostGaps n S → AtMostGaps n T
+fewer-gaps S T within n (l, rising, short, all) = (l, rising, short, λ x e. all x (is-false (S x) (λ t. not-both (within x t) e)))
 
 module _ (S : Set) where
   -- no more than a bound on the gaps

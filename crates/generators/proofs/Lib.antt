@@ -6,6 +6,7 @@ pub mod MinimalGenerators
 pub mod WordFrom
 pub mod SameAnswers
 pub mod Joining
+pub mod Stages
 pub mod Membership
 pub mod Scan
 pub mod LowGenerators

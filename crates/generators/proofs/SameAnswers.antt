@@ -6,16 +6,15 @@ use mathlib.Core.Bool.{true}
 use mathlib.Core.List.{List, List·Memᴰ}
 use native.Mathlib.Omega.{arith}
 use native.Mathlib.Nat.{dvd-antisymm, eq-one-of-dvd-one}
-use lib.Dec.{ltb}
-use Rattle.words.specs.Lists.{every}
 use Rattle.words.specs.Answers.{given}
-use Rattle.words.proofs.Booleans.{not-both, is-true, is-false, true-together}
-use Rattle.words.proofs.Lists.{zero-iff}
+use Rattle.words.proofs.Booleans.{true-together}
+use Rattle.words.proofs.Lists.{positive-together}
 use Rattle.generators.specs.Divisors.{gcdOf}
-use Rattle.generators.specs.Sums.{SumsOf, spans, AtMostGaps, Positive}
+use Rattle.generators.specs.Sums.{SumsOf, spans, Positive}
 use Rattle.generators.specs.Generators.{fewGaps, wordFromOf}
 use Rattle.generators.proofs.Divisors.{gcd-greatest}
 use Rattle.generators.proofs.Sums.{sum-member, spans-iff, gcd-divides-sum, sums-of-members, sums-of-sums}
+use Rattle.generators.proofs.Few.{fewer-gaps}
 use Rattle.generators.proofs.WordFrom.{answered-word, accepted-generators-iff}
 
 -- ---- where the members of A are sums of B
@@ -29,24 +28,17 @@ module _ (A B : List ℕ) (there : SumsOf A B) where
   gcd-more : gcdOf B ∣ gcdOf A
   gcd-more = gcd-greatest A (gcdOf B) (λ a m. gcd-divides-sum B a (there a m))
 
-  -- the gaps of the sums of B are among those of the sums of A
-  gaps-fewer : (n : ℕ) → AtMostGaps n (spans A) → AtMostGaps n (spans B)
-  gaps-fewer n (l, rising, short, all) = (l, rising, short, λ x e. all x (is-false (spans A x) (λ t. not-both (spans-more x t) e)))
-
-  -- so that B, where it has no 0, is accepted if A is
+  -- with the gaps of the sums of B among those of the sums of A, B is accepted if A is and B has no 0
   pub more-accepted : (w : ℕ) → wordFromOf A ≡ given w → Positive B → (v : ℕ) × (wordFromOf B ≡ given v)
   more-accepted w made positive =
       let (_, coprime, few) = accepted-generators-iff A .0 (w, made) in
-      accepted-generators-iff B .1 (positive, eq-one-of-dvd-one (subst (λ (d : ℕ). gcdOf B ∣ d) coprime gcd-more), gaps-fewer 32 few)
+      accepted-generators-iff B .1 (
+        positive,
+        eq-one-of-dvd-one (subst (λ (d : ℕ). gcdOf B ∣ d) coprime gcd-more),
+        fewer-gaps (spans A) (spans B) spans-more 32 few,
+      )
 
 -- ---- where the members of A and B are sums of each other's
-
--- where 0 is in both or in neither, question 7 gets the same answer
-positive-together : (A B : List ℕ) → List·Memᴰ 0 A ↔ List·Memᴰ 0 B → every (ltb 0) A ≡ every (ltb 0) B
-positive-together A B (to, from) = true-together (every (ltb 0) A) (every (ltb 0) B) (go A B from) (go B A to)
-  where
-    go : (A B : List ℕ) → (List·Memᴰ 0 B → List·Memᴰ 0 A) → every (ltb 0) A ≡ true → every (ltb 0) B ≡ true
-    go A B from e = is-true (every (ltb 0) B) (λ f. not-both e (zero-iff A .1 (from (zero-iff B .0 f))))
 
 -- 0 is in neither of two lists of positive members
 pub neither-zero : (A B : List ℕ) → Positive A → Positive B → List·Memᴰ 0 A ↔ List·Memᴰ 0 B

@@ -3,7 +3,7 @@ use Prim.Native.Nat.{ℕ, zero, suc, _+_, _-_, _≤_, _<_, _∣_}
 use mathlib.Core.Path.{_≡_, refl, sym, ap, subst, _∙_}
 use mathlib.Core.Logic.{_↔_, ⊎-elim}
 use mathlib.Core.Bool.{true, false, not}
-use mathlib.Core.List.{List, [], _∷_, _++_, List·Memᴰ, List·Memᴰ·head, List·Memᴰ·tail, List·Memᴰ·not-nil, List·Memᴰ·cases-cons, Memᴰ·cast, List·Memᴰ·append-cases}
+use mathlib.Core.List.{List, [], _∷_, _++_, List·Memᴰ, List·Memᴰ·head, List·Memᴰ·tail, List·Memᴰ·not-nil, List·Memᴰ·cases-cons, Memᴰ·cast}
 use native.Mathlib.Omega.{arith}
 use native.Mathlib.Nat.{suc-sub-suc, sub-zero, add-zero, zero-add, dvd-zero, dvd-add}
 use lib.ListN.{getD}
@@ -11,7 +11,7 @@ use borrow.Author.Tests.{not-true, not-false}
 use Rattle.words.specs.Lists.{every, sumOver}
 use Rattle.words.specs.Sets.{Set, ClosedUnderAddition}
 use Rattle.words.proofs.Booleans.{not-both, is-false}
-use Rattle.words.proofs.Lists.{every-mem, every-false, sum-append}
+use Rattle.words.proofs.Lists.{append-each, every-mem, every-false, sum-append}
 use Rattle.generators.specs.Divisors.{gcdOf}
 use Rattle.generators.specs.Sums.{SumOf, SumsOf, further, sumsDown, spans}
 use Rattle.generators.proofs.Divisors.{gcd-divides}
@@ -34,7 +34,7 @@ module _ (A : List ℕ) where
 
   -- sums add up to a sum
   pub sum-add : {x y : ℕ} → SumOf A x → SumOf A y → SumOf A (x + y)
-  sum-add (k, in-k, e) (l, in-l, f) = (k ++ l, λ a m. ⊎-elim (in-k a) (in-l a) (List·Memᴰ·append-cases k m), omega (arith, sum-append (λ a. a) k l))
+  sum-add (k, in-k, e) (l, in-l, f) = (k ++ l, append-each k l in-k in-l, omega (arith, sum-append (λ a. a) k l))
 
   -- a member is a sum
   pub sum-member : {a : ℕ} → List·Memᴰ a A → SumOf A a
@@ -134,7 +134,7 @@ module _ (A : List ℕ) where
   pub gcd-divides-sum : (x : ℕ) → SumOf A x → gcdOf A ∣ x
   gcd-divides-sum x s = divides-sum (gcdOf A) (λ a m. gcd-divides A m) x s
 
--- a member is a sum: of a list with all members of A, all members of A are sums
+-- members are sums: where B has all members of A, they are sums of B
 pub sums-of-members : (A B : List ℕ) → ((a : ℕ) → List·Memᴰ a A → List·Memᴰ a B) → SumsOf A B
 sums-of-members A B within a m = sum-member B (within a m)
 

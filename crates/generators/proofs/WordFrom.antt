@@ -151,6 +151,10 @@ module _ (A : List ℕ) (w : ℕ) (made : wordFromOf A ≡ given w) where
   pub made-among : {x : ℕ} → List·Memᴰ x (minimalGenerators w) → List·Memᴰ x A
   made-among m = generators-least w (sums .fits) A (λ x. sym (sums .same x)) m
 
+  -- and they give it back
+  pub made-back : wordFromOf (minimalGenerators w) ≡ given w
+  made-back = let (fits, accepted) = made-accepted in generators-give-word w fits accepted
+
   -- the call lists them, in a list that holds them
   pub made-listed : (lent : List ℕ) → length (minimalGenerators w) ≤ length lent → generatorsOf w lent ≡ filled (minimalGenerators w) lent
   unfolding generatorsOf

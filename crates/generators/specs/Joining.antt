@@ -16,7 +16,7 @@ Bytes A = (a : ℕ) → List·Memᴰ a A → a < 256
 
 -- A and B are lists of bytes; A is accepted and gives the word w, and B has no 0
 pub record Joinable (A : List ℕ) (w : ℕ) (B : List ℕ) : Type 0 where
-  pub bytes : Bytes (A ++ B)
+  pub of-bytes : Bytes (A ++ B)
   pub gives : wordFromOf A ≡ given w
   pub no-zero : ¬ List·Memᴰ 0 B
 

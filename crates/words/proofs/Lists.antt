@@ -14,7 +14,7 @@ use lib.Pow.{pow-mono}
 use lib.Seq.{take-append-seam, drop-append-seam, set-append-seam, drop-cons, drop-append-add, drop-drop, take-suc, sets}
 use borrow.Author.Tests.{eq-eqb, ne-eqb, eqb-true, ltb-true, ltb-false, lt-ltb}
 use Rattle.words.specs.Lists.{none, run, keep, keepIf, every, joined, sumOver, lastOr, begins, fronted, onFrom, Ordered}
-use Rattle.words.proofs.Booleans.{not-both, is-false, by-value, not-and}
+use Rattle.words.proofs.Booleans.{not-both, is-true, is-false, true-together, by-value, not-and}
 
 -- ---- run
 
@@ -184,6 +184,10 @@ module _ {A : Type 0} where
       ap not (every-append q l (x ∷ [])) ∙ not-and (every q l) (q x && true)
       ∙ ap (λ (b : Bool). not (every q l) || b) (ap not (and-true (q x)) ∙ Bool·not-not (p x))
 
+  -- what holds of each member of k and of each of l holds of each of both
+  pub append-each : {P : A → Type 0} (k l : List A) → ((x : A) → List·Memᴰ x k → P x) → ((x : A) → List·Memᴰ x l → P x) → (x : A) → List·Memᴰ x (k ++ l) → P x
+  append-each k l f g x m = ⊎-elim (f x) (g x) (List·Memᴰ·append-cases k m)
+
   -- ---- order
 
   pub ordered-one : (R : A → A → Type 0) (x : A) → Ordered R (x ∷ [])
@@ -195,7 +199,7 @@ module _ {A : Type 0} where
   unfolding Ordered
   ordered-append R [] l o q h = q
   ordered-append R (x ∷ k) l o q h = (
-    λ y m. ⊎-elim (o .0 y) (h x y (List·Memᴰ·head refl)) (List·Memᴰ·append-cases k m),
+    append-each k l (o .0) (λ y m. h x y (List·Memᴰ·head refl) m),
     ordered-append R k l (o .1) q (λ z y m. h z y (List·Memᴰ·tail m)),
   )
 
@@ -488,7 +492,18 @@ zero-iff l = (
   λ m. is-false (every (ltb 0) l) (λ e. omega (arith, positive-iff l .0 e 0 m)),
 )
 
--- so that their sum is at least their number
+-- so that all are where 0 is not among them
+pub positive-without-zero : (l : List ℕ) → (¬ List·Memᴰ 0 l) → (x : ℕ) → List·Memᴰ x l → 0 < x
+positive-without-zero l h = positive-iff l .0 (is-true (every (ltb 0) l) (λ e. h (zero-iff l .0 e)))
+
+-- and the test has the same answer for two lists where 0 is in both or in neither
+pub positive-together : (k l : List ℕ) → List·Memᴰ 0 k ↔ List·Memᴰ 0 l → every (ltb 0) k ≡ every (ltb 0) l
+positive-together k l (to, from) = true-together (every (ltb 0) k) (every (ltb 0) l) (carried k l from) (carried l k to)
+  where
+    carried : (k l : List ℕ) → (List·Memᴰ 0 l → List·Memᴰ 0 k) → every (ltb 0) k ≡ true → every (ltb 0) l ≡ true
+    carried k l from e = is-true (every (ltb 0) l) (λ f. not-both e (zero-iff k .1 (from (zero-iff l .0 f))))
+
+-- the sum of positive numbers is at least their number
 pub length-le-sum : (l : List ℕ) → every (ltb 0) l ≡ true → length l ≤ sumOver (λ x. x) l
 unfolding every sumOver
 length-le-sum [] e = omega arith
