@@ -7,7 +7,6 @@ pub mod WordFrom
 pub mod SameAnswers
 pub mod Joining
 pub mod Stages
-pub mod Membership
 pub mod Scan
 pub mod LowGenerators
 pub mod Cases

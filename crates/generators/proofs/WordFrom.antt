@@ -1,7 +1,7 @@
 -- The word of given generators: which lists are refused, and that generators and words give back one another. Assumes nothing.
 use Prim.Native.Nat.{ℕ, _^_, _≤_, _<_}
 use mathlib.Core.Path.{_≡_, refl, sym, ap, ap₂, subst, _∙_, fun-ext}
-use mathlib.Core.Logic.{_≢_, _↔_}
+use mathlib.Core.Logic.{_≢_, _↔_, _⊎_, ⊎-elim}
 use mathlib.Core.Bool.{Bool, true, false}
 use mathlib.Core.List.{List, List·Memᴰ}
 use native.Mathlib.Omega.{arith}
@@ -23,7 +23,7 @@ use Rattle.generators.specs.Generators.{minimalGenerators, generatorsOf,
 use Rattle.generators.proofs.Sums.{spans-zero, spans-closed}
 use Rattle.generators.proofs.Few.{gap-below-64, gaps-to-le, few-iff}
 use Rattle.generators.proofs.MinimalGenerators.{generators-mem, mem-generators, generators-span, generators-gcd, generators-least}
-use Rattle.words.proofs.Answers.{first-no, second-no, third-no, all-yes, list-given, room}
+use Rattle.words.proofs.Answers.{first-no, second-no, third-no, one-no, all-yes, list-given, room}
 
 -- ---- the questions
 
@@ -69,6 +69,13 @@ module _ (A : List ℕ) where
     λ e. let (p, q, r) = third-no 7 8 9 (omega arith) (omega arith) word positives coprime (fewGaps A) e in (positive-iff A .0 p, eqb-true (gcdOf A) 1 q, λ g. not-both (few-gaps-iff .1 g) r),
     λ (h, g, n). rw (positive-iff A .1 h, eq-eqb (gcdOf A) 1 g, is-false (fewGaps A) (λ e. n (few-gaps-iff .0 e))),
   )
+
+  -- so that a list without 0 is refused 8 or 9, if it is refused
+  pub refused-positive : (n : ℕ) → (¬ List·Memᴰ 0 A) → wordFromOf A ≡ refused n → (n ≡ 8) ⊎ (n ≡ 9)
+  unfolding wordFromOf
+  refused-positive n fresh e =
+      ⊎-elim (λ s. absurd (fresh (refused-zero .0 (e ∙ ap refused s)))) (λ m. m)
+      (one-no 7 8 9 (omega arith) (omega arith) word n positives coprime (fewGaps A) e)
 
   few-word : AtMostGaps 32 (spans A) → (wordOf (gapsTo (spans A) 64) < 2 ^ 64) × ((x : ℕ) → setOf (wordOf (gapsTo (spans A) 64)) x ≡ spans A x)
   few-word few =

@@ -1,20 +1,14 @@
--- What the private functions of the crate compute and require: the members of a list as a set, the generators below the conductor, and
--- what is known of a word before its generators are written. Assumes nothing: these are definitions.
+-- What the private functions of the crate compute and require: the generators below the conductor, and what is known of a word before its
+-- generators are written. Assumes nothing: these are definitions.
 use Prim.Native.Nat.{ℕ, _%_, _^_}
 use mathlib.Core.Path.{_≡_}
-use mathlib.Core.Bool.{not, _&&_}
-use mathlib.Core.List.{List}
-use lib.Dec.{eqb, ltb}
-use Rattle.words.specs.Lists.{every}
+use mathlib.Core.Bool.{_&&_}
+use lib.Dec.{ltb}
 use Rattle.words.specs.Sets.{Set}
 use Rattle.words.specs.Words.{conductor}
 use Rattle.words.specs.Elements.{multiplicity, generator}
 use Rattle.words.specs.Answers.{Accepted}
 use Rattle.tables.specs.Seeds.{seedTable}
-
--- x is a member of A
-unfoldable pub memberOf : List ℕ → Set
-memberOf A x = not (every (λ a. not (eqb a x)) A)
 
 -- a generator below the conductor
 unfoldable pub lowGenerator : ℕ → Set

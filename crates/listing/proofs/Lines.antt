@@ -80,7 +80,7 @@ unfolding headerOf
 header-of-le g small = header-le g (length (genusList g)) small (genus-count-fits g small)
 
 -- the line of a refusal
-pub refusal-line-le : (n : ℕ) → n ≤ 13 → length (refusalLine n) ≤ 11
+pub refusal-line-le : (n : ℕ) → n < 100 → length (refusalLine n) ≤ 11
 unfolding refusalLine
 refusal-line-le n h =
     let parts : length (refusalLine n) ≡ 8 + length (field n lineFeed) = simp length-append in
@@ -97,5 +97,5 @@ refusal-given r lent a l m e g =
     line = refusalLine (numberOf r)
 
     by-question : (b : Bool) → ask {A = Answer ℕ × List ℕ} b (refused 6, lent) (given (length line), fronted line lent) .0 ≡ given m → m ≤ 11
-    by-question true e = let same : length line ≡ m = cc in omega (arith, refusal-line-le (numberOf r) (number-range r .1))
+    by-question true e = let same : length line ≡ m = cc in omega (arith, refusal-line-le (numberOf r) (omega (arith, number-range r)))
     by-question false e = absurd (let z : _≡_ {A = ℕ} 0 1 = cc in omega arith)

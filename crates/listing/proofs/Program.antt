@@ -23,7 +23,7 @@ use Rattle.listing.proofs.Lines.{refusal-line-le}
 use Rattle.listing.proofs.Listings.{listings}
 
 -- a refused input: its text is the line of the refusal, which has its places
-refusal-text : (input : List ℕ) (n : ℕ) → n ≤ 13 → requestOf input ≡ refused n → RefusalText input
+refusal-text : (input : List ℕ) (n : ℕ) → n < 100 → requestOf input ≡ refused n → RefusalText input
 unfolding answerText textOf refusalLineOf
 refusal-text input n h e =
     let text : textOf input ≡ refusalLine n = ap answerText e in

@@ -2,7 +2,7 @@
 -- what a look at a word tells a caller, and what a call that lists numbers of a word does. Assumes nothing.
 use Prim.Native.Nat.{ℕ, _-_, _^_, _≤_, _<_}
 use mathlib.Core.Path.{_≡_, refl, sym, _∙_, ap, subst}
-use mathlib.Core.Logic.{_↔_}
+use mathlib.Core.Logic.{_↔_, _⊎_, inl, inr}
 use mathlib.Core.Bool.{Bool, true, false}
 use mathlib.Core.List.{List, [], _∷_}
 use native.Mathlib.Omega.{arith}
@@ -14,7 +14,7 @@ use Rattle.words.specs.Sets.{Set, ClosedUnderAddition}
 use Rattle.words.specs.Words.{setOf, genus, closed}
 use Rattle.words.specs.Answers.{Answer, Accepted, refused, given, numberOf, ask, askWord, reportOf, Tells, lookOf, ListAnswer, unchanged, filled, listedInto, giving}
 use Rattle.words.specs.declared.Refusal.{Refusal}
-use Rattle.words.specs.declared.Refusal.the-variants.{TooManyGaps, NotClosed, GenusTooLarge, WalkOutOfOrder, NotAGenerator, ListTooShort, ZeroGenerator, CommonDivisor, TooManyGapsGenerated, MalformedInput, ZeroCoordinate, CoordinateSumTooLarge, FailedInequality}
+use Rattle.words.specs.declared.Refusal.the-variants.{TooManyGaps, NotClosed, GenusTooLarge, WalkOutOfOrder, NotAGenerator, ListTooShort, ZeroGenerator, CommonDivisor, TooManyGapsGenerated, MalformedInput, ZeroCoordinate, CoordinateSumTooLarge, FailedInequality, EditorOutOfOrder, EditorFull, ByteNotHeld}
 use Rattle.words.specs.declared.Report.{Report}
 use Rattle.words.proofs.Sets.{genus-unique, multiplicity-unique}
 use Rattle.words.proofs.Words.{word-genus}
@@ -28,7 +28,8 @@ use Rattle.words.proofs.Closure.{closed-iff}
 refusals : List Refusal
 refusals =
     TooManyGaps ∷ NotClosed ∷ GenusTooLarge ∷ WalkOutOfOrder ∷ NotAGenerator ∷ ListTooShort ∷ ZeroGenerator ∷ CommonDivisor
-    ∷ TooManyGapsGenerated ∷ MalformedInput ∷ ZeroCoordinate ∷ CoordinateSumTooLarge ∷ FailedInequality ∷ []
+    ∷ TooManyGapsGenerated ∷ MalformedInput ∷ ZeroCoordinate ∷ CoordinateSumTooLarge ∷ FailedInequality
+    ∷ EditorOutOfOrder ∷ EditorFull ∷ ByteNotHeld ∷ []
 
 refusalOf : ℕ → Refusal
 refusalOf n = getD refusals (n - 1) MalformedInput
@@ -48,13 +49,16 @@ refusal-of-number MalformedInput = refl
 refusal-of-number ZeroCoordinate = refl
 refusal-of-number CoordinateSumTooLarge = refl
 refusal-of-number FailedInequality = refl
+refusal-of-number EditorOutOfOrder = refl
+refusal-of-number EditorFull = refl
+refusal-of-number ByteNotHeld = refl
 
 -- no two refusals have the same number, so that an equation of answers leaves no case of an enum free
 pub number-decides : (r s : Refusal) → numberOf r ≡ numberOf s → r ≡ s
 number-decides r s e = sym (refusal-of-number r) ∙ ap refusalOf e ∙ refusal-of-number s
 
--- the numbers are from 1 to 13
-pub number-range : (r : Refusal) → (1 ≤ numberOf r) × (numberOf r ≤ 13)
+-- the numbers are from 1 to 16
+pub number-range : (r : Refusal) → (1 ≤ numberOf r) × (numberOf r ≤ 16)
 number-range TooManyGaps = omega arith
 number-range NotClosed = omega arith
 number-range GenusTooLarge = omega arith
@@ -68,6 +72,9 @@ number-range MalformedInput = omega arith
 number-range ZeroCoordinate = omega arith
 number-range CoordinateSumTooLarge = omega arith
 number-range FailedInequality = omega arith
+number-range EditorOutOfOrder = omega arith
+number-range EditorFull = omega arith
+number-range ByteNotHeld = omega arith
 
 -- ---- three questions
 
@@ -97,6 +104,13 @@ module _ {A : Type 0} (a b c : ℕ) (low : a < b) (high : b < c) (value : A) whe
   third-no true false r e = let same : b ≡ c = cc in absurd (omega arith)
   third-no true true false e = (refl, refl, refl)
   third-no true true true e = let z : _≡_ {A = ℕ} 0 1 = cc in absurd (omega arith)
+
+  -- a refusal has the number of one of the three
+  pub one-no : (n : ℕ) (p q r : Bool) → by-three p q r ≡ refused n → (n ≡ a) ⊎ ((n ≡ b) ⊎ (n ≡ c))
+  one-no n false q r e = inl cc
+  one-no n true false r e = inr (inl cc)
+  one-no n true true false e = inr (inr cc)
+  one-no n true true true e = let z : _≡_ {A = ℕ} 0 1 = cc in absurd (omega arith)
 
   -- all answered yes
   pub all-yes : (v : A) (p q r : Bool) → by-three p q r ≡ given v → (p ≡ true) × (q ≡ true) × (r ≡ true) × (value ≡ v)

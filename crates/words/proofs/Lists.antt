@@ -9,9 +9,9 @@ use native.Mathlib.Omega.{arith}
 use native.Mathlib.Nat.{add-zero, zero-add, suc-add, add-suc, eq-or-lt-of-le, le-of-eq, le-trans, le-of-lt, le-dest, pow-suc, suc-mul}
 use native.Mathlib.Numerals.{add-one}
 use lib.Dec.{eqb, ltb}
-use lib.ListN.{length, getD, take, drop, set, replicate, length-append, length-take, length-drop, take-append-drop}
+use lib.ListN.{length, getD, take, drop, set, replicate, length-append, length-take, length-drop, length-replicate, replicate-append-replicate, take-append-drop}
 use lib.Pow.{pow-mono}
-use lib.Seq.{take-append-seam, drop-append-seam, set-append-seam, drop-cons, drop-append-add, drop-drop, take-suc, sets}
+use lib.Seq.{take-append-seam, drop-append-seam, set-append-seam, drop-cons, drop-append-add, drop-drop, drop-at, take-suc, sets}
 use borrow.Author.Tests.{eq-eqb, ne-eqb, eqb-true, ltb-true, ltb-false, lt-ltb}
 use Rattle.words.specs.Lists.{none, run, keep, keepIf, every, joined, sumOver, lastOr, begins, fronted, onFrom, Ordered}
 use Rattle.words.proofs.Booleans.{not-both, is-true, is-false, true-together, by-value, not-and}
@@ -615,6 +615,26 @@ on-from-end x [] = ([], refl)
 on-from-end x (y ∷ l) =
     by-value (eqb x y) (λ e. ([], rw e))
     (λ e. let (k, s) = on-from-end x l in (y ∷ k, rw e (ap (λ (t : List ℕ). y ∷ t) s)))
+
+-- ---- a list of one value
+
+module _ {A : Type 0} (a : A) where
+  -- it has no other member
+  pub replicate-mem : {x : A} (n : ℕ) → List·Memᴰ x (replicate n a) → x ≡ a
+  replicate-mem zero m = absurd (List·Memᴰ·not-nil m)
+  replicate-mem (suc n) m = ⊎-elim (λ e. e) (replicate-mem n) (List·Memᴰ·cases-cons m)
+
+  -- and a list without another member is one
+  pub mem-replicate : (l : List A) → ((x : A) → List·Memᴰ x l → x ≡ a) → l ≡ replicate (length l) a
+  mem-replicate [] h = refl
+  mem-replicate (x ∷ l) h = ap₂ (λ (y : A) (r : List A). y ∷ r) (h x (List·Memᴰ·head refl)) (mem-replicate l (λ y m. h y (List·Memᴰ·tail m)))
+
+  -- without its first n it is a shorter one
+  pub drop-replicate : (n k : ℕ) → n ≤ k → drop n (replicate k a) ≡ replicate (k - n) a
+  drop-replicate n k h =
+      let parts : n + (k - n) ≡ k = omega arith in
+      ap (λ (j : ℕ). drop n (replicate j a)) (sym parts) ∙ ap (drop n) (sym (replicate-append-replicate n (k - n) a))
+      ∙ drop-at (replicate n a) (replicate (k - n) a) n (length-replicate n a)
 
 -- ---- stores in a row
 

@@ -1,6 +1,6 @@
 -- Lists by which the atlas's definitions are written. Assumes nothing: these are definitions.
 use Prim.Native.Nat.{ℕ, zero, suc, _+_}
-use mathlib.Core.Bool.{Bool, true, false, cond, _&&_}
+use mathlib.Core.Bool.{Bool, true, false, cond, not, _&&_}
 use mathlib.Core.List.{List, [], _∷_, _++_, List·Memᴰ}
 use lib.Dec.{eqb}
 use lib.ListN.{length, drop}
@@ -30,6 +30,10 @@ keep p (x ∷ l) = keepIf (p x) x (keep p l)
 unfoldable pub every : {A : Type 0} → (A → Bool) → List A → Bool
 every p [] = true
 every p (x ∷ l) = p x && every p l
+
+-- is x among the numbers of l
+unfoldable pub memberOf : List ℕ → ℕ → Bool
+memberOf l x = not (every (λ a. not (eqb a x)) l)
 
 -- f of each, joined
 unfoldable pub joined : {A B : Type 0} → (A → List B) → List A → List B

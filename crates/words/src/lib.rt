@@ -73,6 +73,9 @@ pub enum Refusal {
     ZeroCoordinate,
     CoordinateSumTooLarge,
     FailedInequality,
+    EditorOutOfOrder,
+    EditorFull,
+    ByteNotHeld,
 }
 
 impl Refusal {
@@ -94,6 +97,9 @@ impl Refusal {
             Refusal::ZeroCoordinate => 11,
             Refusal::CoordinateSumTooLarge => 12,
             Refusal::FailedInequality => 13,
+            Refusal::EditorOutOfOrder => 14,
+            Refusal::EditorFull => 15,
+            Refusal::ByteNotHeld => 16,
         }
     }
 }
