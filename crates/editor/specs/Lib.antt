@@ -1,0 +1,4 @@
+pub mod Changes
+pub mod States
+pub mod Histories
+pub mod Private
