@@ -1,13 +1,15 @@
 -- Answers as the structs that C callers get: the number of a refusal first, 0 for an answer, then the values, 0 where refused.
 -- Assumes nothing: these are definitions.
 use Prim.Native.Nat.{ℕ}
-use mathlib.Core.Bool.{Bool, true, false}
+use mathlib.Core.Bool.{Bool, true, false, cond, _||_}
 use mathlib.Core.List.{List}
 use mathlib.Core.Option.{Option, none, some}
 use lib.Dec.{eqb, leb}
 use lib.IntN.{pos}
 use Rattle.words.specs.Answers.{Answer, refused, given, ask}
 use Rattle.words.specs.declared.Report.{Report}
+use Rattle.editor.specs.Changes.{Change}
+use Rattle.editor.specs.States.{State, Outcome, changeOf}
 use Rattle.walk.specs.declared.Walk.{Walk}
 use Rattle.walk.specs.declared.Written.{Written}
 use Rattle.walk.specs.Walks.{Ending, batchOf}
@@ -17,6 +19,8 @@ use Rattle.atlas.specs.declared.AtlasReport.{AtlasReport}
 use Rattle.atlas.specs.declared.AtlasWalk.{AtlasWalk}
 use Rattle.atlas.specs.declared.AtlasBegun.{AtlasBegun}
 use Rattle.atlas.specs.declared.AtlasMoved.{AtlasMoved}
+use Rattle.atlas.specs.declared.AtlasEditor.{AtlasEditor}
+use Rattle.atlas.specs.declared.AtlasChanged.{AtlasChanged}
 
 -- a number
 abbrev pub numberIn : Answer ℕ → AtlasNumber
@@ -78,3 +82,37 @@ batchIn w lent =
     ask (leb (w .genus) 32) record { answer = unmovedIn 3 w; list = lent }
     (ask (leb (w .finished) 1) record { answer = unmovedIn 4 w; list = lent }
     (let ending : Ending = batchOf (walkFrom w) lent in record { answer = movedIn (ending .walk) (ending .answer); list = ending .list }))
+
+-- ---- a list of generators that changes
+
+-- a state as C callers get it
+abbrev pub editorIn : State → AtlasEditor
+editorIn s = record { bytes = s .bytes; length = s .length; answer = numberIn (s .answer) }
+
+-- is it an answer that C callers get: with no value beside a refusal
+unfoldable pub isAnswer : AtlasNumber → Bool
+isAnswer n = eqb (n .refused) 0 || eqb (n .value) 0
+
+-- an answer as they hand it over
+unfoldable pub answerFrom : AtlasNumber → Answer ℕ
+answerFrom n = cond (eqb (n .refused) 0) (given (n .value)) (refused (n .refused))
+
+-- and a state
+abbrev pub editorFrom : AtlasEditor → State
+editorFrom e = record { bytes = e .bytes; length = e .length; answer = answerFrom (e .answer) }
+
+-- a change that is refused, with the state as it was given
+abbrev pub unchangedIn : ℕ → AtlasEditor → AtlasChanged
+unchangedIn number e = record { refused = number; editor = e }
+
+-- and one by its answer, with the state afterwards
+abbrev pub changedBy : AtlasEditor → State → Answer (Unit {0}) → AtlasChanged
+changedBy e after (refused n) = unchangedIn n e
+changedBy e after (given v) = record { refused = 0; editor = editorIn after }
+
+abbrev pub changedIn : AtlasEditor → Outcome → AtlasChanged
+changedIn e o = changedBy e (o .state) (o .answer)
+
+-- a change: question 14, where an answer with a value beside a refusal is one that no bytes give; then the questions of the change
+unfoldable pub changeIn : Change → AtlasEditor → AtlasChanged
+changeIn c e = ask (isAnswer (e .answer)) (unchangedIn 14 e) (changedIn e (changeOf c (editorFrom e)))

@@ -1,6 +1,7 @@
 // The calls of the atlas for callers in C and in languages that call C. An answer is a struct by value: first the number of the
 // refusal, 0 where there is none, then the values, all 0 where the call is refused. A list is a pointer and a length.
 ghost use mathlib.Core.Path.{_≡_};
+ghost use mathlib.Core.List.{[]};
 ghost use Rattle.words.specs.Answers.{answered, soughtAnswered, looked, lookOf, numberOf};
 ghost use Rattle.tables.specs.Answers.{tableOf, childOf, grandchildrenOf};
 ghost use Rattle.walk.specs.Answers.{begun, reported};
@@ -9,7 +10,13 @@ ghost use Rattle.generators.specs.Generators.{generatorsOf, wordFromOf};
 ghost use Rattle.elementary.specs.Answers.{elementaryOf};
 ghost use Rattle.kunz.specs.Coordinates.{coordinatesOf, wordFromCoordinatesOf};
 ghost use Rattle.search.specs.Wanted.{findOf};
-ghost use Rattle.atlas.specs.Interface.{numberIn, foundIn, reportIn, walkIn, begunIn, unmovedIn, movedIn, batchIn};
+ghost use Rattle.editor.specs.Changes.{addition, removal};
+ghost use Rattle.editor.specs.States.{said, stateOf, told};
+ghost use Rattle.atlas.specs.Interface.{numberIn, foundIn, reportIn, walkIn, begunIn, unmovedIn, movedIn, batchIn, editorIn, changedIn, changeIn};
+ghost use Rattle.atlas.specs.Private.{refusalHeld, answerHeld, editorHeld};
+use editor::ChangeAnswer;
+use editor::Changed;
+use editor::Editor;
 use walk::BatchAnswer;
 use walk::Walk;
 use walk::WalkAnswer;
@@ -69,6 +76,21 @@ pub struct AtlasMoved {
     pub walk: AtlasWalk,
     pub count: usize,
     pub finished: bool,
+}
+
+// A list of generators that changes: sixteen places, the number of them that are held, and the kept answer.
+#[repr(C)]
+pub struct AtlasEditor {
+    pub bytes: [u8; 16],
+    pub length: usize,
+    pub answer: AtlasNumber,
+}
+
+// What a change of such a list gives: the number of a refusal, and the state afterwards.
+#[repr(C)]
+pub struct AtlasChanged {
+    pub refused: u64,
+    pub editor: AtlasEditor,
 }
 
 // A number as C callers get it.
@@ -190,6 +212,76 @@ fn moved_of(walk: Walk, answer: BatchAnswer) -> AtlasMoved
             walk,
             count: written.count,
             finished: written.finished,
+        },
+    }
+}
+
+// The state of a list of generators that changes, as they get it.
+fn editor_of(editor: Editor) -> AtlasEditor
+    ensures { λ r. ⌜ r ≡ editorIn (said editor) ⌝ }
+{
+    let bytes = editor.bytes;
+    let answer = editor.answer;
+    AtlasEditor {
+        bytes,
+        length: editor.length,
+        answer: number_of(answer),
+    }
+}
+
+// The refusal that a kept answer has which C callers hand over: 8 or 9. Any other, or one with a value beside it, becomes 7, which no bytes
+// without 0 are given.
+fn refusal_from(number: AtlasNumber) -> Refusal
+    ensures { λ r. ⌜ numberOf r ≡ refusalHeld number ⌝ }
+{
+    if number.value != 0 {
+        return Refusal::ZeroGenerator;
+    }
+    let refused = number.refused;
+    match refused {
+        8 => Refusal::CommonDivisor,
+        9 => Refusal::TooManyGapsGenerated,
+        _ => Refusal::ZeroGenerator,
+    }
+}
+
+// The kept answer that C callers hand over.
+fn answer_from(number: AtlasNumber) -> NumberAnswer
+    ensures { λ r. ⌜ answered r ≡ answerHeld number ⌝ }
+{
+    if number.refused == 0 {
+        return NumberAnswer::Given(number.value);
+    }
+    NumberAnswer::Refused(refusal_from(number))
+}
+
+// The state that C callers hand over.
+fn editor_from(editor: AtlasEditor) -> Editor
+    ensures { λ r. ⌜ said r ≡ editorHeld editor ⌝ }
+{
+    let bytes = editor.bytes;
+    let number = editor.answer;
+    Editor {
+        bytes,
+        length: editor.length,
+        answer: answer_from(number),
+    }
+}
+
+// What a change gives, as they get it: where it is refused, with the state as it was handed over.
+fn changed_of(editor: AtlasEditor, changed: Changed) -> AtlasChanged
+    ensures { λ r. ⌜ r ≡ changedIn editor (told changed) ⌝ }
+{
+    let after = changed.editor;
+    let answer = changed.answer;
+    match answer {
+        ChangeAnswer::Refused(refusal) => AtlasChanged {
+            refused: refusal.number(),
+            editor,
+        },
+        ChangeAnswer::Made => AtlasChanged {
+            refused: 0,
+            editor: editor_of(after),
         },
     }
 }
@@ -338,4 +430,30 @@ pub extern "C" fn atlas_word_from_kunz(list: &[u8]) -> AtlasNumber
     ensures { λ r. ⌜ r ≡ numberIn (wordFromCoordinatesOf (now (list .entry))) ⌝ }
 {
     number_of(kunz::word_from_coordinates(list))
+}
+
+// A list of generators that changes, at the start: no byte is held. No question.
+#[no_mangle]
+pub extern "C" fn atlas_editor_empty() -> AtlasEditor
+    ensures { λ r. ⌜ r ≡ editorIn (stateOf []) ⌝ }
+{
+    editor_of(editor::empty())
+}
+
+// A byte is added behind those that are held. Questions 14, 7, 15.
+#[no_mangle]
+pub extern "C" fn atlas_editor_add(editor: AtlasEditor, byte: u8) -> AtlasChanged
+    ensures { λ r. ⌜ r ≡ changeIn (addition byte) editor ⌝ }
+{
+    let state = editor_from(editor);
+    changed_of(editor, editor::add(state, byte))
+}
+
+// The first byte that is equal is removed. Questions 14, 16.
+#[no_mangle]
+pub extern "C" fn atlas_editor_remove(editor: AtlasEditor, byte: u8) -> AtlasChanged
+    ensures { λ r. ⌜ r ≡ changeIn (removal byte) editor ⌝ }
+{
+    let state = editor_from(editor);
+    changed_of(editor, editor::remove(state, byte))
 }
