@@ -1,5 +1,5 @@
-//! Random calls of the atlas, valid and damaged, walks of all small windows and searches in all small genera, against an implementation
-//! from the plain definitions: sets of numbers, sums of two elements, gap lists. It uses no bit tricks and no seed tables but those of
+//! Random calls of the atlas, valid and damaged, walks of all small windows, searches in all small genera and all short histories of a list
+//! of generators, against an implementation from the plain definitions: sets of numbers, sums of two elements, gap lists. It uses no bit tricks and no seed tables but those of
 //! definition 1.3. Searches in genus 19 and above are held to the lists of the atlas's own walk, and the grandchildren of all words of three
 //! genera, together, to the known numbers of semigroups two genera on. Prints the seed, the number of calls of each kind and the number of
 //! differences, which must be 0.
@@ -59,6 +59,21 @@ struct Found {
     word: u64,
 }
 
+#[repr(C)]
+#[derive(Clone, Copy, PartialEq, Debug)]
+struct Editor {
+    bytes: [u8; 16],
+    length: usize,
+    answer: Number,
+}
+
+#[repr(C)]
+#[derive(Clone, Copy, PartialEq, Debug)]
+struct Changed {
+    refused: u64,
+    editor: Editor,
+}
+
 extern "C" {
     fn atlas_look(word: u64) -> Report;
     fn atlas_seed_table(word: u64) -> Number;
@@ -76,6 +91,9 @@ extern "C" {
     fn atlas_kunz(word: u64, out: *mut u8, length: usize) -> Number;
     fn atlas_word_from_kunz(list: *const u8, length: usize) -> Number;
     fn atlas_find(genus: u64, largest_gap: i8, multiplicity: u8) -> Found;
+    fn atlas_editor_empty() -> Editor;
+    fn atlas_editor_add(editor: Editor, byte: u8) -> Changed;
+    fn atlas_editor_remove(editor: Editor, byte: u8) -> Changed;
 }
 
 // ---- the plain definitions
@@ -253,6 +271,67 @@ fn word_from(list: &[u8]) -> Number {
         }
     }
     given(word_of(&missed))
+}
+
+/// The state that holds a list of generators, with its answer.
+fn holding(list: &[u8]) -> Editor {
+    let mut bytes = [0; 16];
+    bytes[..list.len()].copy_from_slice(list);
+    Editor {
+        bytes,
+        length: list.len(),
+        answer: word_from(list),
+    }
+}
+
+/// A change of a list of generators.
+#[derive(Clone, Copy, Debug)]
+enum Change {
+    Add(u8),
+    Remove(u8),
+}
+
+/// Makes a change of a list, or gives the number of its refusal.
+fn make(change: Change, list: &mut Vec<u8>) -> u64 {
+    match change {
+        Change::Add(0) => 7,
+        Change::Add(_) if list.len() == 16 => 15,
+        Change::Add(byte) => {
+            list.push(byte);
+            0
+        }
+        Change::Remove(byte) => match list.iter().position(|&held| held == byte) {
+            None => 16,
+            Some(first) => {
+                list.remove(first);
+                0
+            }
+        },
+    }
+}
+
+/// Is the length at most 16, no held byte 0, each place past the length 0, and the answer that of the held bytes?
+fn in_order(editor: &Editor) -> bool {
+    editor.length <= 16 && {
+        let (held, past) = editor.bytes.split_at(editor.length);
+        !held.contains(&0) && past.iter().all(|&b| b == 0) && editor.answer == word_from(held)
+    }
+}
+
+/// A change of any state.
+fn changed(change: Change, editor: &Editor) -> Changed {
+    let mut after = *editor;
+    let refused = if in_order(editor) {
+        let mut list = editor.bytes[..editor.length].to_vec();
+        let refused = make(change, &mut list);
+        if refused == 0 {
+            after = holding(&list);
+        }
+        refused
+    } else {
+        14
+    };
+    Changed { refused, editor: after }
 }
 
 /// For i from 1 to m - 1 the number x with m x + i the least element that leaves i on division by m.
@@ -991,6 +1070,105 @@ fn same_sums(n: u64, words: &Words, r: &mut Random) -> Kind {
     kind
 }
 
+/// What the call for a change gives.
+fn edited(change: Change, editor: Editor) -> Changed {
+    match change {
+        Change::Add(byte) => unsafe { atlas_editor_add(editor, byte) },
+        Change::Remove(byte) => unsafe { atlas_editor_remove(editor, byte) },
+    }
+}
+
+/// A history from the empty start, change by change: the state afterwards is the one that holds the list that is left. Gives that state.
+fn history(changes: &[Change], kind: &mut Kind, met: &mut [u64; 17]) -> Editor {
+    let mut list = Vec::new();
+    let mut editor = unsafe { atlas_editor_empty() };
+    kind.same(editor, holding(&[]), &|| "the empty start".to_string());
+    for (i, &change) in changes.iter().enumerate() {
+        let refused = make(change, &mut list);
+        met[refused as usize] += 1;
+        let answer = edited(change, editor);
+        let plain = Changed {
+            refused,
+            editor: holding(&list),
+        };
+        kind.same(answer, plain, &|| format!("{:?}", &changes[..=i]));
+        editor = answer.editor;
+    }
+    editor
+}
+
+/// All histories of five changes, each an addition or a removal of 0, 2 or 3.
+fn short_histories() -> Kind {
+    let mut kind = Kind::new("changes in all short histories");
+    let changes = [0, 2, 3].map(|byte| [Change::Add(byte), Change::Remove(byte)]).concat();
+    let mut met = [0u64; 17];
+    for n in 0..changes.len().pow(5) {
+        let history_n: Vec<Change> = (0..5).map(|i| changes[n / changes.len().pow(i) % changes.len()]).collect();
+        history(&history_n, &mut kind, &mut met);
+    }
+    assert!([0, 7, 16].iter().all(|&q| met[q] > 0), "each answer is met: {met:?}");
+    kind
+}
+
+/// A history of up to 79 changes: of few different bytes or of many, with more additions or more removals, some of 0.
+fn random_history(words: &Words, r: &mut Random) -> Vec<Change> {
+    let mut bytes = match r.below(4) {
+        0 => minimal_generators(words.valid(r)),
+        1 => (0..4).map(|_| 1 + r.below(9) as u8).collect(),
+        2 => (0..1 + r.below(20)).map(|_| (2 + 2 * r.below(127)) as u8).collect(),
+        _ => (0..1 + r.below(20)).map(|_| r.next() as u8).collect(),
+    };
+    bytes.extend([0, 255]);
+    let removals = [10, 30, 60][r.below(3) as usize];
+    (0..r.below(80))
+        .map(|_| {
+            let byte = bytes[r.below(bytes.len() as u64) as usize];
+            if r.below(100) < removals { Change::Remove(byte) } else { Change::Add(byte) }
+        })
+        .collect()
+}
+
+/// A state with up to two damages: to its length, to a byte or to its answer, or all of it random.
+fn damage(mut editor: Editor, r: &mut Random) -> Editor {
+    for _ in 0..r.below(3) {
+        match r.below(7) {
+            0 => editor.length = [0, 1, 15, 16, 17, 255, 1 << 32, usize::MAX][r.below(8) as usize],
+            1 => editor.length = editor.length.wrapping_add_signed([-1, 1][r.below(2) as usize]),
+            2 => editor.bytes[r.below(16) as usize] = 0,
+            3 => editor.bytes[r.below(16) as usize] = r.next() as u8,
+            4 => editor.answer.refused = [0, 7, 8, 9, 10, 14, 20, u64::MAX][r.below(8) as usize],
+            5 => editor.answer.value = [0, 1, editor.answer.value ^ 1 << r.below(64), r.next()][r.below(4) as usize],
+            _ => editor = unsafe { std::mem::transmute([r.next(), r.next(), r.below(20), r.below(12), r.next()]) },
+        }
+    }
+    editor
+}
+
+/// Random histories, and after each changes of damaged states. In histories each refusal of a change and each kept answer is met, and of the
+/// damaged states each refusal.
+fn editors(n: u64, words: &Words, r: &mut Random) -> [Kind; 2] {
+    let (mut kind, mut damaged) = (Kind::new("changes in histories"), Kind::new("changes of damaged states"));
+    let (mut met, mut kept, mut met_damaged) = ([0u64; 17], [0u64; 10], [0u64; 17]);
+    for _ in 0..n {
+        let changes = random_history(words, r);
+        let last = history(&changes, &mut kind, &mut met);
+        kept[last.answer.refused as usize] += 1;
+        for _ in 0..4 {
+            let editor = damage(last, r);
+            let byte = if r.below(2) == 0 { editor.bytes[r.below(16) as usize] } else { [0, 1, 255][r.below(3) as usize] };
+            for change in [Change::Add(byte), Change::Remove(byte)] {
+                let plain = changed(change, &editor);
+                met_damaged[plain.refused as usize] += 1;
+                damaged.same(edited(change, editor), plain, &|| format!("{change:?} {editor:?}"));
+            }
+        }
+    }
+    assert!([0, 7, 15, 16].iter().all(|&q| met[q] > n / 100), "each answer is met: {met:?}");
+    assert!([0, 8, 9].iter().all(|&q| kept[q] > n / 100), "each kept answer is met: {kept:?}");
+    assert!([0, 7, 14, 15, 16].iter().all(|&q| met_damaged[q] > n / 100), "each answer is met: {met_damaged:?}");
+    [kind, damaged]
+}
+
 fn elementaries(n: u64, words: &Words, r: &mut Random) -> Kind {
     let mut kind = Kind::new("elementary");
     let mut table = vec![vec![0u64; 64]; words.lists.len()];
@@ -1133,7 +1311,7 @@ fn main() {
         below(0, g, lowest, highest, usize::MAX, &mut list);
         assert!(list == words.window(g, lowest, highest, usize::MAX), "the window {lowest} to {highest} of genus {g} by the tree");
     }
-    let kinds = [
+    let mut kinds = vec![
         looks(400_000, &words, &mut r),
         tables(100_000, &words, &mut r),
         childs(150_000, &words, &mut r),
@@ -1156,7 +1334,9 @@ fn main() {
         words_from_coordinates(200_000, &words, &mut r),
         small_finds(&words),
         finds(100_000, &mut r),
+        short_histories(),
     ];
+    kinds.extend(editors(12_000, &words, &mut r));
     println!("seed {seed}");
     for kind in &kinds {
         println!("{:>9} calls of {}: {} differences", kind.calls, kind.name, kind.differences);

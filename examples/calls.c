@@ -200,6 +200,66 @@ static void generators_in_stages(void) {
   CHECK(number_is(atlas_word_from((uint8_t[]){6, 10, 55, 15, 4, 255}, 6), 0, 70999));
 }
 
+static bool editor_is(atlas_editor e, const uint8_t *held, size_t length, uint64_t refused, uint64_t value) {
+  uint8_t bytes[16] = {0};
+  memcpy(bytes, held, length);
+  return memcmp(e.bytes, bytes, sizeof bytes) == 0 && e.length == length && number_is(e.answer, refused, value);
+}
+
+/* Adds 6, 10 and 6, removes the first 6, and adds 15; the answer follows. Refused changes leave everything. */
+static void short_history(void) {
+  atlas_editor e = atlas_editor_empty();
+  CHECK(editor_is(e, NULL, 0, 8, 0));
+  e = atlas_editor_add(atlas_editor_add(atlas_editor_add(e, 6).editor, 10).editor, 6).editor;
+  CHECK(editor_is(e, (uint8_t[]){6, 10, 6}, 3, 8, 0));
+  atlas_changed c = atlas_editor_remove(e, 6);
+  CHECK(c.refused == 0 && editor_is(c.editor, (uint8_t[]){10, 6}, 2, 8, 0));
+  c = atlas_editor_add(c.editor, 0);
+  CHECK(c.refused == 7 && editor_is(c.editor, (uint8_t[]){10, 6}, 2, 8, 0));
+  c = atlas_editor_remove(c.editor, 0);
+  CHECK(c.refused == 16 && editor_is(c.editor, (uint8_t[]){10, 6}, 2, 8, 0));
+  c = atlas_editor_add(c.editor, 55);
+  CHECK(c.refused == 0 && editor_is(c.editor, (uint8_t[]){10, 6, 55}, 3, 9, 0));
+  c = atlas_editor_add(c.editor, 15);
+  CHECK(c.refused == 0 && editor_is(c.editor, (uint8_t[]){10, 6, 55, 15}, 4, 0, 272971231));
+  atlas_number again = atlas_word_from(c.editor.bytes, c.editor.length);
+  CHECK(number_is(again, c.editor.answer.refused, c.editor.answer.value));
+}
+
+/* Of twenty additions sixteen are held; then an added 0 is still refused 7. */
+static void long_history(void) {
+  atlas_editor e = atlas_editor_empty();
+  uint8_t first[16];
+  for (uint8_t i = 0; i < 20; i++) {
+    atlas_changed c = atlas_editor_add(e, 40 + i);
+    CHECK(c.refused == (i < 16 ? 0 : 15));
+    if (i < 16)
+      first[i] = 40 + i;
+    e = c.editor;
+  }
+  CHECK(editor_is(e, first, 16, 9, 0));
+  CHECK(atlas_editor_add(e, 0).refused == 7);
+  CHECK(atlas_editor_remove(e, 56).refused == 16);
+}
+
+/* Any bytes may be handed over as a list that changes: what is not in order is refused 14 and comes back as it was. */
+static void wrong_states(void) {
+  const atlas_editor right = atlas_editor_add(atlas_editor_empty(), 1).editor;
+  CHECK(editor_is(right, (uint8_t[]){1}, 1, 0, 0));
+  atlas_editor wrong[6] = {right, right, right, right, right, right};
+  wrong[0].length = 17;
+  wrong[1].bytes[0] = 0;
+  wrong[2].bytes[15] = 1;
+  wrong[3].answer.value = 1;
+  wrong[4].answer.refused = 8;
+  wrong[5].answer = (atlas_number){20, 20};
+  for (size_t i = 0; i < sizeof wrong / sizeof wrong[0]; i++) {
+    atlas_changed added = atlas_editor_add(wrong[i], 0), removed = atlas_editor_remove(wrong[i], 1);
+    CHECK(added.refused == 14 && memcmp(&added.editor, &wrong[i], sizeof wrong[i]) == 0);
+    CHECK(removed.refused == 14 && memcmp(&removed.editor, &wrong[i], sizeof wrong[i]) == 0);
+  }
+}
+
 static void coordinates(void) {
   uint8_t out[4] = {9, 9, 9, 9};
   CHECK(number_is(atlas_kunz(too_many, out, 4), 1, 0));
@@ -250,6 +310,9 @@ int main(void) {
   counts();
   generators();
   generators_in_stages();
+  short_history();
+  long_history();
+  wrong_states();
   coordinates();
   searches();
   printf("calls: %u checks, %u failed\n", checks, failures);

@@ -10,7 +10,7 @@
    child is at 1. Below, "the conductor" is the paper's unless it is called reported.
 
    No call asks anything of its arguments, and every call returns. In each answer `refused` comes first: 0 for an answer, otherwise the
-   number of the refusal, and then all values are 0, no list is written and a walk comes back as it was given. A list is a pointer and a
+   number of the refusal, and then all values are 0, no list is written and a walk or a list that changes comes back as it was given. A list is a pointer and a
    length; a list of length 0 may have any pointer that is not null. Lists that are lent for writing must not be touched by others during
    the call.
 
@@ -18,8 +18,9 @@
    neither finished with word 0 nor unfinished on an accepted word of its genus in its window, a finished byte other than 0 and 1, or a
    start at a word outside the window; 5 no generator, or below the conductor; 6 the lent list is too short; 7 a given generator is 0; 8
    the greatest common divisor of the given generators is not 1 (an empty list's is 0); 9 the given generators leave more than 32 gaps;
-   11 a given coordinate is 0; 12 the given coordinates add up to more than 32; 13 an inequality of the given coordinates fails. (10 is
-   the listing program's.)
+   11 a given coordinate is 0; 12 the given coordinates add up to more than 32; 13 an inequality of the given coordinates fails; 14 a list
+   that changes has a length above 16, a held byte 0, a place past its length that is not 0, or another answer than atlas_word_from gives
+   for its bytes; 15 it holds sixteen bytes; 16 it does not hold the byte. (10 is the listing program's.)
 
    Link with target/staticlib/libatlas.a, which `rt staticlib atlas` writes. */
 #ifndef ATLAS_H
@@ -79,6 +80,20 @@ typedef struct {
   bool finished;
 } atlas_moved;
 
+/* A list of generators that changes: the first `length` of sixteen bytes are held, in order of arrival, and the others are 0; `answer` is what
+   atlas_word_from gives for those that are held. */
+typedef struct {
+  uint8_t bytes[16];
+  size_t length;
+  atlas_number answer;
+} atlas_editor;
+
+/* What a change of such a list gives: the list afterwards. */
+typedef struct {
+  uint64_t refused;
+  atlas_editor editor;
+} atlas_changed;
+
 /* Genus, multiplicity, reported conductor and largest gap of a word; 0, 1, 0 and -1 for the word 0. Refusals 1, 2. */
 atlas_report atlas_look(uint64_t word);
 
@@ -122,6 +137,15 @@ atlas_number atlas_generators(uint64_t word, uint8_t *out, size_t length);
 /* The word of all sums of the given generators; repeats and any order are allowed. Long lists may be joined in stages, and what is held
    be reduced to the minimal generators of its word whenever it has one: the answer is that of all joined at once. Refusals 7, 8, 9. */
 atlas_number atlas_word_from(const uint8_t *list, size_t length);
+
+/* A list of generators that changes, at the start: it holds none, and its answer is refused 8. */
+atlas_editor atlas_editor_empty(void);
+
+/* Adds a byte behind those that are held. Refusals 14, 7, 15. */
+atlas_changed atlas_editor_add(atlas_editor editor, uint8_t byte);
+
+/* Removes the first of the held bytes that is equal to `byte`; those behind it move up. Refusals 14, 16. */
+atlas_changed atlas_editor_remove(atlas_editor editor, uint8_t byte);
 
 /* The Kunz coordinates of an accepted word are one less than its multiplicity: a list of 32 places always holds them. */
 #define ATLAS_MOST_COORDINATES 32

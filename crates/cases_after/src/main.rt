@@ -1,6 +1,9 @@
 // Runs further cases of the papers on what comes after the walk: generators both ways, joined lists of them, elementary counts, Kunz
-// coordinates both ways, the requests of the listing program and the listing of genus 0. What it prints is held to the stored file, which
-// was computed apart from the plain definitions.
+// coordinates both ways, a list of generators that changes, the requests of the listing program and the listing of genus 0. What it prints
+// is held to the stored file, which was computed apart from the plain definitions.
+use editor::ChangeAnswer;
+use editor::Changed;
+use editor::Editor;
 use libc::STDOUT_FILENO;
 use listing::ListingAnswer;
 use listing::PageAnswer;
@@ -43,14 +46,18 @@ fn answer(a: NumberAnswer) {
     text(b"\n");
 }
 
+// The first n bytes of a list.
+fn first_bytes(list: &[u8], n: usize) {
+    if n <= list.len() {
+        bytes(&list[..n]);
+    }
+}
+
 // The bytes that a call listed, and its answer.
 fn listed(a: NumberAnswer, list: &[u8]) {
     if let NumberAnswer::Given(n) = a {
-        let n = n as usize;
-        if n <= list.len() {
-            text(b" are");
-            bytes(&list[..n]);
-        }
+        text(b" are");
+        first_bytes(list, n as usize);
     }
     answer(a);
 }
@@ -88,6 +95,39 @@ fn show_word_from_coordinates(list: &[u8]) {
     text(b"word from coordinates");
     bytes(list);
     answer(kunz::word_from_coordinates(list));
+}
+
+// What a change gives: its refusal where it is refused, the bytes that are held then, and the kept answer.
+fn show_change(changed: Changed) -> Editor {
+    let change = changed.answer;
+    if let ChangeAnswer::Refused(r) = change {
+        text(b" is");
+        refusal(r);
+    }
+    let after = changed.editor;
+    let places = after.bytes;
+    let length = after.length;
+    text(b" holds");
+    first_bytes(&places, length);
+    let kept = after.answer;
+    answer(kept);
+    after
+}
+
+fn add(state: Editor, byte: u8) -> Editor {
+    text(b"add");
+    field(wide(byte));
+    show_change(editor::add(state, byte))
+}
+
+fn remove(state: Editor, byte: u8) -> Editor {
+    text(b"remove");
+    field(wide(byte));
+    show_change(editor::remove(state, byte))
+}
+
+fn add_four(state: Editor, a: u8, b: u8, c: u8, d: u8) -> Editor {
+    add(add(add(add(state, a), b), c), d)
 }
 
 fn show_request(input: &[u8]) {
@@ -211,6 +251,60 @@ fn refused_coordinates() {
     show_word_from_coordinates(&[17, 1, 14]);
 }
 
+// 6, 10, 6, of which the first 6 is removed; changes that are refused; then 55 and 15, with which there is a word.
+fn short_history() {
+    let two = remove(add(add(add(editor::empty(), 6), 10), 6), 6);
+    let same = remove(remove(add(two, 0), 7), 0);
+    let word = add(add(same, 55), 15);
+    remove(word, 15);
+}
+
+// Twenty additions, of which sixteen are held; an added 0 is still refused 7; then one is removed and another added.
+fn long_history() {
+    let eight = add_four(add_four(editor::empty(), 4, 8, 12, 16), 20, 24, 28, 32);
+    let full = add_four(add_four(eight, 36, 40, 44, 48), 52, 56, 60, 64);
+    let same = add(add_four(full, 68, 72, 76, 80), 0);
+    add(remove(add(remove(same, 4), 255), 255), 7);
+}
+
+// States that are not right: a length of 17, a held 0, a place past the length that is not 0, an answer that the bytes do not give.
+fn wrong_states() {
+    let ones = [1u8; 16];
+    let zeros = [0u8; 16];
+    add(
+        Editor {
+            bytes: ones,
+            length: 17,
+            answer: NumberAnswer::Given(0),
+        },
+        0,
+    );
+    remove(
+        Editor {
+            bytes: zeros,
+            length: 1,
+            answer: NumberAnswer::Refused(Refusal::ZeroGenerator),
+        },
+        0,
+    );
+    remove(
+        Editor {
+            bytes: ones,
+            length: 15,
+            answer: NumberAnswer::Given(0),
+        },
+        1,
+    );
+    add(
+        Editor {
+            bytes: ones,
+            length: 16,
+            answer: NumberAnswer::Given(1),
+        },
+        1,
+    );
+}
+
 fn requests() {
     show_request(b"3\n");
     show_request(b"03\n");
@@ -240,6 +334,9 @@ fn main() {
     coordinates_out();
     coordinates_back();
     refused_coordinates();
+    short_history();
+    long_history();
+    wrong_states();
     requests();
     malformed_requests();
     show_listing(0);
