@@ -1,9 +1,11 @@
 /* Speed of the atlas as ratios: the count and the whole walk of a genus by batches of 4,096 words, ours against the paper's recursive
    algorithm in C and against plain Rust, the same work on the same machine in one run; then calls on every word of a genus, and the walk
-   of a window of it and searches in it, against the walk of it. Each time is the least of several runs. */
+   of a window of it and searches in it, against the walk of it; and changes of lists of generators against calls for their words. Each time
+   is the least of several runs. */
 #include <inttypes.h>
 #include <stdio.h>
 #include <stdlib.h>
+#include <string.h>
 #include <time.h>
 #include "../include/atlas.h"
 
@@ -115,6 +117,55 @@ static uint64_t all_searches(unsigned genus, uint64_t *out, size_t length, uint6
   return found;
 }
 
+/* The generators of each word of a genus, sixteen at most, one list after the other: a byte with the length, then the bytes. */
+static uint8_t lists[1 << 17];
+
+static void list_generators(unsigned genus) {
+  uint8_t *at = lists, out[ATLAS_MOST_GENERATORS];
+  atlas_walk walk = atlas_fresh(genus).walk;
+  atlas_moved moved;
+  do {
+    moved = atlas_batch(walk, words, LENGTH);
+    for (size_t i = 0; i < moved.count; i++) {
+      uint64_t count = atlas_generators(words[i], out, sizeof out).value;
+      *at = count < 16 ? count : 16;
+      memcpy(at + 1, out, *at);
+      at += 1 + *at;
+    }
+    walk = moved.walk;
+  } while (!moved.refused && !moved.finished);
+  *at = 0;
+}
+
+static uint64_t mix_answer(uint64_t mix, atlas_number answer) { return mix * 31 + answer.refused + answer.value; }
+
+/* Each of these lists is built up byte by byte and taken down again, by changes. Gives their number. */
+static uint64_t by_changes(unsigned genus, uint64_t *out, size_t length, uint64_t *mixed) {
+  (void)genus, (void)out, (void)length;
+  uint64_t changes = 0, mix = 0;
+  for (const uint8_t *at = lists; *at; at += 1 + *at) {
+    atlas_editor e = atlas_editor_empty();
+    for (unsigned i = 1; i <= *at; i++) mix = mix_answer(mix, (e = atlas_editor_add(e, at[i]).editor).answer);
+    for (unsigned i = 1; i <= *at; i++) mix = mix_answer(mix, (e = atlas_editor_remove(e, at[i]).editor).answer);
+    changes += 2 * *at;
+  }
+  *mixed = mix;
+  return changes;
+}
+
+/* The same answers by a call for each list. */
+static uint64_t by_calls(unsigned genus, uint64_t *out, size_t length, uint64_t *mixed) {
+  (void)genus, (void)out, (void)length;
+  uint64_t calls = 0, mix = 0;
+  for (const uint8_t *at = lists; *at; at += 1 + *at) {
+    for (unsigned i = 1; i <= *at; i++) mix = mix_answer(mix, atlas_word_from(at + 1, i));
+    for (unsigned i = 1; i <= *at; i++) mix = mix_answer(mix, atlas_word_from(at + 1 + i, *at - i));
+    calls += 2 * *at;
+  }
+  *mixed = mix;
+  return calls;
+}
+
 static double now(void) {
   struct timespec t;
   clock_gettime(CLOCK_MONOTONIC, &t);
@@ -191,6 +242,15 @@ int main(void) {
     fprintf(stderr, "results differ: grandchildren of genus 24\n");
     exit(1);
   }
+  list_generators(16);
+  uint64_t changes, calls, mixed_calls;
+  double changing = time_of(by_changes, 16, LENGTH, &changes, &mixed), calling = time_of(by_calls, 16, LENGTH, &calls, &mixed_calls);
+  if (changes != calls || mixed != mixed_calls) {
+    fprintf(stderr, "results differ: changes of lists of generators\n");
+    exit(1);
+  }
+  printf("%" PRIu64 " changes of lists of generators: %.2f times the calls for their words, %.0f ns each\n", changes, changing / calling,
+         changing / (double)changes * 1e9);
   double single = time_of(our_walk, 20, 1, &total, &mixed);
   printf("a batch of length 1 at genus 20: %.0f ns\n", single / (double)total * 1e9);
   uint64_t inside;

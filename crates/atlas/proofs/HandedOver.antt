@@ -1,21 +1,27 @@
--- A state that C callers hand over: what the calls make of an answer that no bytes give is refused 14 as the answer itself is. Assumes nothing.
+-- States that C callers hand over: what the calls make of an answer that no bytes give is refused 14 as the answer itself is; and a state that
+-- they were given is taken as that state, so that every history gives them what it gives. Assumes nothing.
 use Prim.Native.Nat.{ℕ}
-use mathlib.Core.Path.{_≡_, sym, ap, _∙_}
+use mathlib.Core.Path.{_≡_, refl, sym, ap, _∙_}
 use mathlib.Core.Logic.{⊎-elim}
 use mathlib.Core.Bool.{true, false}
+use mathlib.Core.List.{List, [], _∷_}
 use native.Mathlib.Omega.{arith}
 use lib.Dec.{eqb}
-use borrow.Author.Tests.{eqb-false}
-use Rattle.words.specs.Answers.{Answer, refused}
+use borrow.Author.Tests.{eqb-false, ne-eqb}
+use Rattle.words.specs.Answers.{Answer, refused, given, ask}
 use Rattle.words.proofs.Booleans.{is-false, by-value}
 use Rattle.generators.proofs.WordFrom.{refused-positive}
-use Rattle.editor.specs.Changes.{Change}
-use Rattle.editor.specs.States.{State, held, isRight, changeOf}
-use Rattle.editor.proofs.States.{right-iff}
+use Rattle.editor.specs.Changes.{Change, listChange, afterwards}
+use Rattle.editor.specs.States.{State, held, RightState, isRight, stateOf, outcomeOf, changeOf}
+use Rattle.editor.specs.Histories.{stateFrom, stateAfter}
+use Rattle.editor.proofs.Changes.{Holdable, none-holdable, after-holdable}
+use Rattle.editor.proofs.States.{right-iff, state-right}
+use Rattle.editor.proofs.Histories.{state-changed}
 use Rattle.editor.proofs.StateChanges.{change-out-of-order}
 use Rattle.atlas.specs.declared.AtlasNumber.{AtlasNumber}
 use Rattle.atlas.specs.declared.AtlasEditor.{AtlasEditor}
-use Rattle.atlas.specs.Interface.{isAnswer, answerFrom, editorFrom, unchangedIn, changedIn, changeIn}
+use Rattle.atlas.specs.declared.AtlasChanged.{AtlasChanged}
+use Rattle.atlas.specs.Interface.{numberIn, editorIn, isAnswer, answerFrom, editorFrom, unchangedIn, changedIn, changeIn, editorAfter}
 use Rattle.atlas.specs.Private.{refusalHeld, answerHeld, editorHeld}
 
 -- a state whose answer has another refusal than 8 and 9 is not right
@@ -65,3 +71,47 @@ module _ (c : Change) (e : AtlasEditor) where
   pub handed-over : changedIn e (changeOf c (editorHeld e)) ≡ changeIn c e
   unfolding isAnswer answerFrom answerHeld
   handed-over = by-value (eqb (n .refused) 0) (λ none. as-it-is (rw none) (rw none)) with-refusal
+
+-- ---- states that were given
+
+-- the answer of a right state is one that C callers get, and is taken as it is
+kept-answer : (s : State) → RightState s → (isAnswer (numberIn (s .answer)) ≡ true) × (answerFrom (numberIn (s .answer)) ≡ s .answer)
+unfolding isAnswer answerFrom
+kept-answer s h = by-answer (s .answer) refl
+  where
+    by-answer : (a : Answer ℕ) → s .answer ≡ a → (isAnswer (numberIn a) ≡ true) × (answerFrom (numberIn a) ≡ a)
+    by-answer (given v) e = (refl, refl)
+    by-answer (refused n) e =
+        let number = refused-positive (held s) n (h .no-zero) (sym (h .kept) ∙ e) in
+        let some : ¬ (n ≡ 0) = λ z. ⊎-elim (λ p. omega (arith, p, z)) (λ p. omega (arith, p, z)) number in
+        rw (ne-eqb n 0 some) (refl, refl)
+
+-- a right state that is handed back changes as it does
+pub given-back : (c : Change) (s : State) → RightState s → changeIn c (editorIn s) ≡ changedIn (editorIn s) (changeOf c s)
+given-back c s h =
+    let (asked, same) = kept-answer s h in
+    sym (meant c (editorIn s) asked)
+    ∙ ap (λ (a : Answer ℕ). changedIn (editorIn s) (changeOf c record { bytes = s .bytes; length = s .length; answer = a })) same
+
+-- what comes back is the state afterwards
+state-given : (c : Change) (s : State) → changedIn (editorIn s) (changeOf c s) .editor ≡ editorIn (changeOf c s .state)
+unfolding changeOf
+state-given c s = by-answer (ask (isRight s) (refused 14) (listChange c (held s)))
+  where
+    by-answer : (a : Answer (List ℕ)) → changedIn (editorIn s) (outcomeOf s a) .editor ≡ editorIn (outcomeOf s a .state)
+    by-answer (refused n) = refl
+    by-answer (given k) = refl
+
+-- from a list that may be held on
+editor-from : (l : List ℕ) (h : List Change) → Holdable l → editorAfter (editorIn (stateOf l)) h ≡ editorIn (stateFrom (stateOf l) h)
+unfolding editorAfter stateFrom
+editor-from l [] ok = refl
+editor-from l (c ∷ h) ok =
+    let next = state-changed c l ok in
+    let back = ap (λ (r : AtlasChanged). r .editor) (given-back c (stateOf l) (state-right l ok)) ∙ state-given c (stateOf l) ∙ ap editorIn next in
+    ap (λ (e : AtlasEditor). editorAfter e h) back ∙ editor-from (afterwards l (listChange c l)) h (after-holdable c l ok)
+    ∙ ap (λ (s : State). editorIn (stateFrom s h)) (sym next)
+
+-- after every history of calls from the empty start, C callers hold the state after that history
+pub editor-after : (h : List Change) → editorAfter (editorIn (stateOf [])) h ≡ editorIn (stateAfter h)
+editor-after h = editor-from [] h none-holdable

@@ -2,7 +2,7 @@
 -- Assumes nothing: these are definitions.
 use Prim.Native.Nat.{ℕ}
 use mathlib.Core.Bool.{Bool, true, false, cond, _||_}
-use mathlib.Core.List.{List}
+use mathlib.Core.List.{List, [], _∷_}
 use mathlib.Core.Option.{Option, none, some}
 use lib.Dec.{eqb, leb}
 use lib.IntN.{pos}
@@ -116,3 +116,8 @@ changedIn e o = changedBy e (o .state) (o .answer)
 -- a change: question 14, where an answer with a value beside a refusal is one that no bytes give; then the questions of the change
 unfoldable pub changeIn : Change → AtlasEditor → AtlasChanged
 changeIn c e = ask (isAnswer (e .answer)) (unchangedIn 14 e) (changedIn e (changeOf c (editorFrom e)))
+
+-- what a C caller holds after a history of changes of what was held before
+unfoldable pub editorAfter : AtlasEditor → List Change → AtlasEditor
+editorAfter e [] = e
+editorAfter e (c ∷ h) = editorAfter (changeIn c e .editor) h

@@ -10,25 +10,27 @@ use Rattle.words.specs.Answers.{Answer, refused, given}
 use Rattle.generators.specs.Generators.{wordFromOf}
 use Rattle.generators.proofs.WordFrom.{refused-positive}
 use Rattle.editor.specs.Changes.{Change, addition, removal, listChange, afterwards, leftOf, leftBy}
-use Rattle.editor.specs.States.{State, held, RightState, stateOf, Outcome, outcomeOf}
+use Rattle.editor.specs.States.{State, held, RightState, stateOf, Outcome, outcomeOf, changeOf}
 use Rattle.editor.specs.Histories.{stateFrom, stateAfter, answerAfter, Histories}
 use Rattle.editor.proofs.Changes.{Holdable, none-holdable, after-holdable, left-holdable, left-applied, additions-left, list-addition, list-removal}
 use Rattle.editor.proofs.States.{held-state, state-right}
 use Rattle.editor.proofs.StateChanges.{change-state, right-made, changing}
 
--- the state after a change of l holds what there is then
-outcome-state : (l : List ℕ) (a : Answer (List ℕ)) → outcomeOf (stateOf l) a .state ≡ stateOf (afterwards l a)
+-- the state that holds l, after a change, holds what there is of l then
+pub state-changed : (c : Change) (l : List ℕ) → Holdable l → changeOf c (stateOf l) .state ≡ stateOf (afterwards l (listChange c l))
 unfolding afterwards
-outcome-state l (refused n) = refl
-outcome-state l (given k) = refl
+state-changed c l ok = ap (λ (o : Outcome). o .state) (change-state c l ok) ∙ by-answer (listChange c l)
+  where
+    by-answer : (a : Answer (List ℕ)) → outcomeOf (stateOf l) a .state ≡ stateOf (afterwards l a)
+    by-answer (refused n) = refl
+    by-answer (given k) = refl
 
--- the state that holds l, after a history, holds what the history leaves of l
+-- and after a history what the history leaves of l
 pub state-from : (l : List ℕ) (h : List Change) → Holdable l → stateFrom (stateOf l) h ≡ stateOf (leftOf l h)
 unfolding stateFrom leftOf
 state-from l [] ok = refl
 state-from l (c ∷ h) ok =
-    ap (λ (o : Outcome). stateFrom (o .state) h) (change-state c l ok) ∙ ap (λ (s : State). stateFrom s h) (outcome-state l (listChange c l))
-    ∙ state-from (afterwards l (listChange c l)) h (after-holdable c l ok)
+    ap (λ (s : State). stateFrom s h) (state-changed c l ok) ∙ state-from (afterwards l (listChange c l)) h (after-holdable c l ok)
 
 -- after a history from the empty start
 module _ (h : List Change) where

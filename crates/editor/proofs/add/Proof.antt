@@ -36,7 +36,7 @@ returns c =
 refuse-requires-2 : tie.Need-refuse-requires-2
 refuse-requires-2 c κs = search needs
 
--- what is told of the state
+-- the state is right
 right-before : (c : tie.Else1) → let s : State = said (c .before .before .args .editor) in isRight s ≡ true
 right-before c = sym (c .before .is-right .ensures) ∙ not-false _ (c .if1 .left)
 
