@@ -117,7 +117,8 @@ static uint64_t all_searches(unsigned genus, uint64_t *out, size_t length, uint6
   return found;
 }
 
-/* The generators of each word of a genus, sixteen at most, one list after the other: a byte with the length, then the bytes. */
+/* The generators of each word of a genus, as many as a list that changes may hold, one list after the other: a byte with the length, then
+   the bytes. */
 static uint8_t lists[1 << 17];
 
 static void list_generators(unsigned genus) {
@@ -128,7 +129,7 @@ static void list_generators(unsigned genus) {
     moved = atlas_batch(walk, words, LENGTH);
     for (size_t i = 0; i < moved.count; i++) {
       uint64_t count = atlas_generators(words[i], out, sizeof out).value;
-      *at = count < 16 ? count : 16;
+      *at = count < ATLAS_MOST_HELD ? count : ATLAS_MOST_HELD;
       memcpy(at + 1, out, *at);
       at += 1 + *at;
     }

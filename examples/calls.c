@@ -201,7 +201,7 @@ static void generators_in_stages(void) {
 }
 
 static bool editor_is(atlas_editor e, const uint8_t *held, size_t length, uint64_t refused, uint64_t value) {
-  uint8_t bytes[16] = {0};
+  uint8_t bytes[ATLAS_MOST_HELD] = {0};
   memcpy(bytes, held, length);
   return memcmp(e.bytes, bytes, sizeof bytes) == 0 && e.length == length && number_is(e.answer, refused, value);
 }
@@ -209,7 +209,7 @@ static bool editor_is(atlas_editor e, const uint8_t *held, size_t length, uint64
 /* Adds 6, 10 and 6, removes the first 6, and adds 15; the answer follows. Refused changes leave everything. */
 static void short_history(void) {
   atlas_editor e = atlas_editor_empty();
-  CHECK(editor_is(e, NULL, 0, 8, 0));
+  CHECK(editor_is(e, (uint8_t[]){0}, 0, 8, 0));
   e = atlas_editor_add(atlas_editor_add(atlas_editor_add(e, 6).editor, 10).editor, 6).editor;
   CHECK(editor_is(e, (uint8_t[]){6, 10, 6}, 3, 8, 0));
   atlas_changed c = atlas_editor_remove(e, 6);
@@ -229,15 +229,15 @@ static void short_history(void) {
 /* Of twenty additions sixteen are held; then an added 0 is still refused 7. */
 static void long_history(void) {
   atlas_editor e = atlas_editor_empty();
-  uint8_t first[16];
+  uint8_t first[ATLAS_MOST_HELD];
   for (uint8_t i = 0; i < 20; i++) {
     atlas_changed c = atlas_editor_add(e, 40 + i);
-    CHECK(c.refused == (i < 16 ? 0 : 15));
-    if (i < 16)
+    CHECK(c.refused == (i < ATLAS_MOST_HELD ? 0 : 15));
+    if (i < ATLAS_MOST_HELD)
       first[i] = 40 + i;
     e = c.editor;
   }
-  CHECK(editor_is(e, first, 16, 9, 0));
+  CHECK(editor_is(e, first, sizeof first, 9, 0));
   CHECK(atlas_editor_add(e, 0).refused == 7);
   CHECK(atlas_editor_remove(e, 56).refused == 16);
 }

@@ -10,9 +10,9 @@
    child is at 1. Below, "the conductor" is the paper's unless it is called reported.
 
    No call asks anything of its arguments, and every call returns. In each answer `refused` comes first: 0 for an answer, otherwise the
-   number of the refusal, and then all values are 0, no list is written and a walk or a list that changes comes back as it was given. A list is a pointer and a
-   length; a list of length 0 may have any pointer that is not null. Lists that are lent for writing must not be touched by others during
-   the call.
+   number of the refusal, and then all values are 0, no list is written, and a walk or a list that changes comes back as it was given. A
+   list is a pointer and a length; a list of length 0 may have any pointer that is not null. Lists that are lent for writing must not be
+   touched by others during the call.
 
    Refusals: 1 more than 32 gaps; 2 not closed under addition; 3 genus (of a child: one more than the word's) above 32; 4 a walk that is
    neither finished with word 0 nor unfinished on an accepted word of its genus in its window, a finished byte other than 0 and 1, or a
@@ -80,15 +80,19 @@ typedef struct {
   bool finished;
 } atlas_moved;
 
-/* A list of generators that changes: the first `length` of sixteen bytes are held, in order of arrival, and the others are 0; `answer` is what
-   atlas_word_from gives for those that are held. */
+/* A list of generators that changes holds at most so many. */
+#define ATLAS_MOST_HELD 16
+
+/* A list of generators that changes: the first `length` bytes are held, in order of arrival, and the others are 0; `answer` is what
+   atlas_word_from gives for those that are held, refused 8 or 9 too. It holds nothing else, so it may be stored and used again in another
+   process. */
 typedef struct {
-  uint8_t bytes[16];
+  uint8_t bytes[ATLAS_MOST_HELD];
   size_t length;
   atlas_number answer;
 } atlas_editor;
 
-/* What a change of such a list gives: the list afterwards. */
+/* What a change of such a list gives: the list afterwards. `refused` is about the change, and `editor.answer` about the list. */
 typedef struct {
   uint64_t refused;
   atlas_editor editor;

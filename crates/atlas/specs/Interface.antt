@@ -110,6 +110,7 @@ abbrev pub changedBy : AtlasEditor → State → Answer (Unit {0}) → AtlasChan
 changedBy e after (refused n) = unchangedIn n e
 changedBy e after (given v) = record { refused = 0; editor = editorIn after }
 
+-- by its outcome
 abbrev pub changedIn : AtlasEditor → Outcome → AtlasChanged
 changedIn e o = changedBy e (o .state) (o .answer)
 

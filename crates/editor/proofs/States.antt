@@ -61,11 +61,12 @@ state-right l h = record {
   kept = ap wordFromOf (sym (held-state l));
 }
 
--- a right state of sixteen places holds a list that may be held, and is the state that holds it
+-- a right state holds a list that may be held
 pub right-holdable : (s : State) → RightState s → Holdable (held s)
 unfolding held
 right-holdable s h = record { short = omega (arith, length-take (s .length) (s .bytes), h .short); no-zero = h .no-zero }
 
+-- and is the state that holds it, where it has sixteen places
 pub right-state : (s : State) → length (s .bytes) ≡ 16 → RightState s → s ≡ stateOf (held s)
 unfolding stateOf held past fronted
 right-state s sixteen h =
