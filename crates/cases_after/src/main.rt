@@ -114,18 +114,21 @@ fn show_change(changed: Changed) -> Editor {
     after
 }
 
+// Adds a byte, and shows what there is then.
 fn add(state: Editor, byte: u8) -> Editor {
     text(b"add");
     field(wide(byte));
     show_change(editor::add(state, byte))
 }
 
+// Removes a byte, and shows what there is then.
 fn remove(state: Editor, byte: u8) -> Editor {
     text(b"remove");
     field(wide(byte));
     show_change(editor::remove(state, byte))
 }
 
+// Adds four bytes.
 fn add_four(state: Editor, a: u8, b: u8, c: u8, d: u8) -> Editor {
     add(add(add(add(state, a), b), c), d)
 }

@@ -150,6 +150,17 @@ left-applied l (c ∷ h) = left-applied (afterwards l (listChange c l)) h ∙ by
     by-answer (refused n) e = refl
     by-answer (given k) e = ap (appliedAll (madeOf k h)) (made-applied c l k e)
 
+-- and no change of what is then left of the history is refused
+pub none-refused : (l : List ℕ) (h : List Change) → madeOf l (madeOf l h) ≡ madeOf l h
+unfolding madeOf keepMade afterwards
+none-refused l [] = refl
+none-refused l (c ∷ h) = by-answer (listChange c l) refl (none-refused (afterwards l (listChange c l)) h)
+  where
+    by-answer : (a : Answer (List ℕ)) → listChange c l ≡ a → madeOf (afterwards l a) (madeOf (afterwards l a) h) ≡ madeOf (afterwards l a) h
+        → madeOf l (keepMade a c (madeOf (afterwards l a) h)) ≡ keepMade a c (madeOf (afterwards l a) h)
+    by-answer (refused n) e again = again
+    by-answer (given k) e again = rw e (ap (λ (t : List Change). c ∷ t) again)
+
 -- of additions of positive numbers alone, those up to the sixteenth are held behind the others
 pub additions-left : (l A : List ℕ) → length l ≤ 16 → (¬ List·Memᴰ 0 A) → leftOf l (map addition A) ≡ l ++ take (16 - length l) A
 unfolding leftOf afterwards

@@ -12,7 +12,7 @@ use Rattle.generators.proofs.WordFrom.{refused-positive}
 use Rattle.editor.specs.Changes.{Change, addition, removal, listChange, afterwards, leftOf, leftBy}
 use Rattle.editor.specs.States.{State, held, RightState, stateOf, Outcome, outcomeOf, changeOf}
 use Rattle.editor.specs.Histories.{stateFrom, stateAfter, answerAfter, Histories}
-use Rattle.editor.proofs.Changes.{Holdable, none-holdable, after-holdable, left-holdable, left-applied, additions-left, list-addition, list-removal}
+use Rattle.editor.proofs.Changes.{Holdable, none-holdable, after-holdable, left-holdable, left-applied, none-refused, additions-left, list-addition, list-removal}
 use Rattle.editor.proofs.States.{held-state, state-right}
 use Rattle.editor.proofs.StateChanges.{change-state, right-made, changing}
 
@@ -60,6 +60,7 @@ histories = record {
   right-after = right-state-after;
   holds = held-after;
   left-out = left-applied [];
+  left-out-made = none-refused [];
   at-most-sixteen = λ h. left-ok h .short;
   arrivals = λ A fresh. additions-left [] A (omega arith) fresh;
   kept-answer = answer-after;

@@ -30,6 +30,8 @@ pub record Histories : Type 0 where
   -- it holds the list that the history leaves, which is that of the history with its refused changes left out
   pub holds : (h : List Change) → held (stateAfter h) ≡ leftBy h
   pub left-out : (h : List Change) → leftBy h ≡ appliedAll (madeOf [] h) []
+  -- of which no change is refused
+  pub left-out-made : (h : List Change) → madeOf [] (madeOf [] h) ≡ madeOf [] h
   -- up to sixteen are held, in order of arrival: of additions alone the first sixteen
   pub at-most-sixteen : (h : List Change) → length (leftBy h) ≤ 16
   pub arrivals : (A : List ℕ) → (¬ List·Memᴰ 0 A) → leftBy (map addition A) ≡ take 16 A
