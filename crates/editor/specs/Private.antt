@@ -1,4 +1,5 @@
--- What the private functions of the crate compute: places of a list. Assumes nothing: these are definitions.
+-- What the private functions of the crate compute: places of a list, and a state with the answer of its bytes. Assumes nothing: these are
+-- definitions.
 use Prim.Native.Nat.{ℕ, suc, _+_}
 use mathlib.Core.Bool.{cond}
 use mathlib.Core.List.{List, [], _∷_, _++_}
