@@ -1,6 +1,7 @@
 // The calls of the atlas for callers in C and in languages that call C. An answer is a struct by value: first the number of the
 // refusal, 0 where there is none, then the values, all 0 where the call is refused. A list is a pointer and a length.
 ghost use mathlib.Core.Path.{_≡_};
+ghost use mathlib.Core.Bool.{true};
 ghost use mathlib.Core.List.{[]};
 ghost use Rattle.words.specs.Answers.{answered, soughtAnswered, looked, lookOf, numberOf};
 ghost use Rattle.tables.specs.Answers.{tableOf, childOf, grandchildrenOf};
@@ -12,8 +13,8 @@ ghost use Rattle.kunz.specs.Coordinates.{coordinatesOf, wordFromCoordinatesOf};
 ghost use Rattle.search.specs.Wanted.{findOf};
 ghost use Rattle.editor.specs.Changes.{addition, removal};
 ghost use Rattle.editor.specs.States.{said, stateOf, told};
-ghost use Rattle.atlas.specs.Interface.{numberIn, foundIn, reportIn, walkIn, begunIn, unmovedIn, movedIn, batchIn, editorIn, changedIn, changeIn};
-ghost use Rattle.atlas.specs.Private.{refusalHeld, answerHeld, editorHeld};
+ghost use Rattle.atlas.specs.Interface.{numberIn, foundIn, reportIn, walkIn, begunIn, unmovedIn, movedIn, batchIn, editorIn, editorFrom, answerFrom, unchangedIn, changedIn, changeIn};
+ghost use Rattle.atlas.specs.Private.{isKept};
 use editor::ChangeAnswer;
 use editor::Changed;
 use editor::Editor;
@@ -229,35 +230,36 @@ fn editor_of(editor: Editor) -> AtlasEditor
     }
 }
 
-// The refusal that a kept answer has which C callers hand over: 8 or 9. Any other, or one with a value beside it, becomes 7, which no bytes
-// without 0 are given.
-fn refusal_from(number: AtlasNumber) -> Refusal
-    ensures { λ r. ⌜ numberOf r ≡ refusalHeld number ⌝ }
+// Is it an answer that bytes without 0 are given: a word, or refused 8 or 9?
+fn is_kept(number: AtlasNumber) -> bool
+    ensures { λ r. ⌜ r ≡ isKept number ⌝ }
 {
-    if number.value != 0 {
-        return Refusal::ZeroGenerator;
-    }
     let refused = number.refused;
     match refused {
-        8 => Refusal::CommonDivisor,
-        9 => Refusal::TooManyGapsGenerated,
-        _ => Refusal::ZeroGenerator,
+        0 => true,
+        8 => number.value == 0,
+        9 => number.value == 0,
+        _ => false,
     }
 }
 
-// The kept answer that C callers hand over.
+// Such an answer, as they hand it over.
 fn answer_from(number: AtlasNumber) -> NumberAnswer
-    ensures { λ r. ⌜ answered r ≡ answerHeld number ⌝ }
+    requires { ⌜ isKept number ≡ true ⌝ }
+    ensures { λ r. ⌜ answered r ≡ answerFrom number ⌝ }
 {
-    if number.refused == 0 {
-        return NumberAnswer::Given(number.value);
+    let refused = number.refused;
+    match refused {
+        0 => NumberAnswer::Given(number.value),
+        8 => NumberAnswer::Refused(Refusal::CommonDivisor),
+        _ => NumberAnswer::Refused(Refusal::TooManyGapsGenerated),
     }
-    NumberAnswer::Refused(refusal_from(number))
 }
 
-// The state that C callers hand over.
+// A state with such an answer, as they hand it over.
 fn editor_from(editor: AtlasEditor) -> Editor
-    ensures { λ r. ⌜ said r ≡ editorHeld editor ⌝ }
+    requires { ⌜ isKept (editor .answer) ≡ true ⌝ }
+    ensures { λ r. ⌜ said r ≡ editorFrom editor ⌝ }
 {
     let bytes = editor.bytes;
     let number = editor.answer;
@@ -268,17 +270,24 @@ fn editor_from(editor: AtlasEditor) -> Editor
     }
 }
 
-// What a change gives, as they get it: where it is refused, with the state as it was handed over.
+// A change that was refused, with the state as it was handed over.
+fn unchanged_of(editor: AtlasEditor, refusal: Refusal) -> AtlasChanged
+    ensures { λ r. ⌜ r ≡ unchangedIn (numberOf refusal) editor ⌝ }
+{
+    AtlasChanged {
+        refused: refusal.number(),
+        editor,
+    }
+}
+
+// What a change of a state that was handed over gives, as they get it.
 fn changed_of(editor: AtlasEditor, changed: Changed) -> AtlasChanged
     ensures { λ r. ⌜ r ≡ changedIn editor (told changed) ⌝ }
 {
     let after = changed.editor;
     let answer = changed.answer;
     match answer {
-        ChangeAnswer::Refused(refusal) => AtlasChanged {
-            refused: refusal.number(),
-            editor,
-        },
+        ChangeAnswer::Refused(refusal) => unchanged_of(editor, refusal),
         ChangeAnswer::Made => AtlasChanged {
             refused: 0,
             editor: editor_of(after),
@@ -440,20 +449,26 @@ pub extern "C" fn atlas_editor_empty() -> AtlasEditor
     editor_of(editor::empty())
 }
 
-// A byte is added behind those that are held. Questions 14, 7, 15.
+// A byte is added behind those that are held. Questions 14, 7, 15; an answer that no bytes without 0 are given is none that the bytes give.
 #[no_mangle]
 pub extern "C" fn atlas_editor_add(editor: AtlasEditor, byte: u8) -> AtlasChanged
     ensures { λ r. ⌜ r ≡ changeIn (addition byte) editor ⌝ }
 {
-    let state = editor_from(editor);
-    changed_of(editor, editor::add(state, byte))
+    let number = editor.answer;
+    if !is_kept(number) {
+        return unchanged_of(editor, Refusal::EditorOutOfOrder);
+    }
+    changed_of(editor, editor::add(editor_from(editor), byte))
 }
 
-// The first byte that is equal is removed. Questions 14, 16.
+// The first byte that is equal is removed. Questions 14, 16; 14 as for an addition.
 #[no_mangle]
 pub extern "C" fn atlas_editor_remove(editor: AtlasEditor, byte: u8) -> AtlasChanged
     ensures { λ r. ⌜ r ≡ changeIn (removal byte) editor ⌝ }
 {
-    let state = editor_from(editor);
-    changed_of(editor, editor::remove(state, byte))
+    let number = editor.answer;
+    if !is_kept(number) {
+        return unchanged_of(editor, Refusal::EditorOutOfOrder);
+    }
+    changed_of(editor, editor::remove(editor_from(editor), byte))
 }

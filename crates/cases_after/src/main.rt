@@ -115,22 +115,22 @@ fn show_change(changed: Changed) -> Editor {
 }
 
 // Adds a byte, and shows what there is then.
-fn add(state: Editor, byte: u8) -> Editor {
+fn show_add(state: Editor, byte: u8) -> Editor {
     text(b"add");
     field(wide(byte));
     show_change(editor::add(state, byte))
 }
 
 // Removes a byte, and shows what there is then.
-fn remove(state: Editor, byte: u8) -> Editor {
+fn show_remove(state: Editor, byte: u8) -> Editor {
     text(b"remove");
     field(wide(byte));
     show_change(editor::remove(state, byte))
 }
 
-// Adds four bytes.
-fn add_four(state: Editor, a: u8, b: u8, c: u8, d: u8) -> Editor {
-    add(add(add(add(state, a), b), c), d)
+// Adds four bytes, and shows what there is after each.
+fn show_four(state: Editor, a: u8, b: u8, c: u8, d: u8) -> Editor {
+    show_add(show_add(show_add(show_add(state, a), b), c), d)
 }
 
 fn show_request(input: &[u8]) {
@@ -256,25 +256,25 @@ fn refused_coordinates() {
 
 // 6, 10, 6, of which the first 6 is removed; changes that are refused; then 55 and 15, with which there is a word.
 fn short_history() {
-    let two = remove(add(add(add(editor::empty(), 6), 10), 6), 6);
-    let same = remove(remove(add(two, 0), 7), 0);
-    let word = add(add(same, 55), 15);
-    remove(word, 15);
+    let two = show_remove(show_add(show_add(show_add(editor::empty(), 6), 10), 6), 6);
+    let same = show_remove(show_remove(show_add(two, 0), 7), 0);
+    let word = show_add(show_add(same, 55), 15);
+    show_remove(word, 15);
 }
 
 // Twenty additions, of which sixteen are held; an added 0 is still refused 7; then one is removed and another added.
 fn long_history() {
-    let eight = add_four(add_four(editor::empty(), 4, 8, 12, 16), 20, 24, 28, 32);
-    let full = add_four(add_four(eight, 36, 40, 44, 48), 52, 56, 60, 64);
-    let same = add(add_four(full, 68, 72, 76, 80), 0);
-    add(remove(add(remove(same, 4), 255), 255), 7);
+    let eight = show_four(show_four(editor::empty(), 4, 8, 12, 16), 20, 24, 28, 32);
+    let full = show_four(show_four(eight, 36, 40, 44, 48), 52, 56, 60, 64);
+    let same = show_add(show_four(full, 68, 72, 76, 80), 0);
+    show_add(show_remove(show_add(show_remove(same, 4), 255), 255), 7);
 }
 
 // States that are not right: a length of 17, a held 0, a place past the length that is not 0, an answer that the bytes do not give.
 fn wrong_states() {
     let ones = [1u8; 16];
     let zeros = [0u8; 16];
-    add(
+    show_add(
         Editor {
             bytes: ones,
             length: 17,
@@ -282,7 +282,7 @@ fn wrong_states() {
         },
         0,
     );
-    remove(
+    show_remove(
         Editor {
             bytes: zeros,
             length: 1,
@@ -290,7 +290,7 @@ fn wrong_states() {
         },
         0,
     );
-    remove(
+    show_remove(
         Editor {
             bytes: ones,
             length: 15,
@@ -298,7 +298,7 @@ fn wrong_states() {
         },
         1,
     );
-    add(
+    show_add(
         Editor {
             bytes: ones,
             length: 16,

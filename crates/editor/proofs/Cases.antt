@@ -3,6 +3,7 @@ use Prim.Native.Nat.{ℕ}
 use mathlib.Core.Path.{_≡_, refl}
 use mathlib.Core.Bool.{true, false}
 use mathlib.Core.List.{List, [], _∷_, map}
+use lib.ListN.{replicate}
 use Rattle.words.specs.Lists.{run, keep, keepIf, every, memberOf, fronted}
 use Rattle.words.specs.Sets.{gapsTo}
 use Rattle.words.specs.Words.{wordOf}
@@ -50,17 +51,17 @@ pub known-states : (stateOf [] ≡ start) × (stateAfter h ≡ two)
 unfolding every memberOf fronted euclid gcd gcdOf wordFromOf withoutFirst applied listChange held past isRight stateOf changeOf stateFrom
 known-states = (refl, refl)
 
--- sixteen bytes are held, 1 among them
+-- sixteen times 2 is held
 abbrev full : State
-full = record { bytes = run 1 16; length = 16; answer = given 0 }
+full = record { bytes = replicate 16 2; length = 16; answer = refused 8 }
 
 -- states that are right
 pub known-right : map isRight (start ∷ two ∷ full ∷ []) ≡ true ∷ true ∷ true ∷ []
-unfolding run keep keepIf every gapsTo wordOf euclid gcd gcdOf further sumsDown spans fewGaps wordFromOf held past isRight
+unfolding every euclid gcd gcdOf wordFromOf held past isRight
 known-right = refl
 
 -- and states that are not: a length of 17, a held 0, a place past the length that is not 0, and answers that the bytes do not give
-pub known-wrong : map isRight (record { bytes = run 1 16; length = 17; answer = given 0 } ∷ record { bytes = two .bytes; length = 3; answer = refused 7 }
+pub known-wrong : map isRight (record { bytes = full .bytes; length = 17; answer = refused 8 } ∷ record { bytes = two .bytes; length = 3; answer = refused 7 }
     ∷ record { bytes = two .bytes; length = 1; answer = refused 8 } ∷ record { bytes = two .bytes; length = 2; answer = refused 9 }
     ∷ record { bytes = two .bytes; length = 2; answer = given 8 } ∷ []) ≡ false ∷ false ∷ false ∷ false ∷ false ∷ []
 unfolding every euclid gcd gcdOf wordFromOf held past isRight

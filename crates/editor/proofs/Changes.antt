@@ -27,7 +27,7 @@ without-first-is a [] l fresh = simp (eq-eqb a a refl)
 without-first-is a (x ∷ k) l fresh =
     rw (ne-eqb x a (λ e. fresh (List·Memᴰ·head (sym e)))) (ap (λ (t : List ℕ). x ∷ t) (without-first-is a k l (λ m. fresh (List·Memᴰ·tail m))))
 
--- ---- which changes are refused
+-- ---- which changes are refused: an addition has two questions and a removal one, so that the others of three are answered yes
 
 module _ (a : ℕ) (l : List ℕ) where
   -- an added 0 is refused 7, and nothing else is

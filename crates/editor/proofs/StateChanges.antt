@@ -2,7 +2,7 @@
 -- Assumes nothing.
 use Prim.Native.Nat.{ℕ, _+_, _-_, _<_}
 use mathlib.Core.Path.{_≡_, refl, sym, ap, ap₂, _∙_, subst}
-use mathlib.Core.Logic.{_↔_, ⊎-elim}
+use mathlib.Core.Logic.{_↔_, Iff·trans, ⊎-elim}
 use mathlib.Core.Bool.{true, false}
 use mathlib.Core.List.{List, [], _∷_, _++_, List·Memᴰ}
 use native.Mathlib.Omega.{arith}
@@ -119,20 +119,13 @@ changing = record {
     λ wrong. ap (λ (o : Outcome). o .answer) (change-out-of-order c s (is-false (isRight s) (λ e. wrong (right-iff s .0 e)))),
   );
   refused-leaves = λ c s n e. outcome-leaves s (ask (isRight s) (refused 14) (listChange c (held s))) n e;
-  addition-of-zero = λ s a h.
-      let (to, from) = right-refused (addition a) s h 7 in
-      let (zero, refusal) = list-addition-7 a (held s) in
-      (λ e. zero (to e), λ e. from (refusal e));
+  addition-of-zero = λ s a h. Iff·trans (right-refused (addition a) s h 7) (list-addition-7 a (held s));
   addition-when-full = λ s a h.
-      let (to, from) = right-refused (addition a) s h 15 in
-      let (full, refusal) = list-addition-15 a (held s) in
-      (λ e. let (positive, most) = full (to e) in (positive, omega (arith, right-holdable s h .short)), λ (positive, most). from (refusal (positive, omega arith)));
+      Iff·trans (right-refused (addition a) s h 15)
+      (Iff·trans (list-addition-15 a (held s)) (λ (p, most). (p, omega (arith, right-holdable s h .short)), λ (p, most). (p, omega arith)));
   addition-made = λ s a h positive room.
       change-in-order (addition a) s (right-iff s .1 h) ∙ ap (outcomeOf s) (list-addition a (held s) (held s ++ a ∷ []) .1 (positive, room, refl));
-  removal-not-held = λ s a h.
-      let (to, from) = right-refused (removal a) s h 16 in
-      let (absent, refusal) = list-removal-16 a (held s) in
-      (λ e. absent (to e), λ e. from (refusal e));
+  removal-not-held = λ s a h. Iff·trans (right-refused (removal a) s h 16) (list-removal-16 a (held s));
   removal-made = λ s a h k l whole fresh.
       let there = subst (List·Memᴰ a) (sym whole) (mem-middle k l a) in
       let left : k ++ l ≡ withoutFirst a (held s) = sym (ap (withoutFirst a) whole ∙ without-first-is a k l fresh) in

@@ -6,6 +6,7 @@ ghost use lib.Dec.{eqb};
 ghost use lib.ListN.{take};
 ghost use Rattle.words.specs.Lists.{every};
 ghost use Rattle.words.specs.Answers.{answered, refused, numberOf};
+ghost use Rattle.generators.specs.Generators.{wordFromOf};
 ghost use Rattle.editor.specs.Changes.{addition, removal};
 ghost use Rattle.editor.specs.States.{said, equalAnswers, isRight, inSixteen, stateOf, told, outcomeOf, changeOf};
 ghost use Rattle.editor.specs.Private.{firstPlace, withoutPlace, withAnswer, skipping};
@@ -59,16 +60,23 @@ fn all_zero(list: &[u8]) -> bool
     true
 }
 
+// The answer of the call for a word from generators for the first `length` of the bytes.
+fn answer_of(bytes: [u8; 16], length: usize) -> NumberAnswer
+    requires { ⌜ length ≤ 16 ⌝ }
+    ensures { λ r. ⌜ answered r ≡ wordFromOf (take length bytes) ⌝ }
+{
+    generators::word_from(&bytes[..length])
+}
+
 // The state with these bytes, of which the first `length` are held, and with their answer.
 fn with_answer(bytes: [u8; 16], length: usize) -> Editor
     requires { ⌜ length ≤ 16 ⌝ }
     ensures { λ r. ⌜ said r ≡ withAnswer bytes length ⌝ }
 {
-    let answer = generators::word_from(&bytes[..length]);
     Editor {
         bytes,
         length,
-        answer,
+        answer: answer_of(bytes, length),
     }
 }
 
@@ -88,9 +96,7 @@ fn is_right(editor: Editor) -> bool
     if !all_zero(&bytes[length..]) {
         return false;
     }
-    let again = with_answer(bytes, length);
-    let given = again.answer;
-    equal_answers(kept, given)
+    equal_answers(kept, answer_of(bytes, length))
 }
 
 // The place of the first byte of a list that is equal to `byte`, or the list's length where there is none.

@@ -9,7 +9,7 @@ use native.Mathlib.Omega.{arith}
 use native.Mathlib.Nat.{add-zero, zero-add, suc-add, add-suc, eq-or-lt-of-le, le-of-eq, le-trans, le-of-lt, le-dest, pow-suc, suc-mul}
 use native.Mathlib.Numerals.{add-one}
 use lib.Dec.{eqb, ltb}
-use lib.ListN.{length, getD, take, drop, set, replicate, length-append, length-take, length-drop, length-replicate, replicate-append-replicate, take-append-drop}
+use lib.ListN.{length, getD, take, drop, set, replicate, length-append, length-take, length-drop, length-replicate, replicate-append-replicate, take-append-drop, drop-of-length-le}
 use lib.Pow.{pow-mono}
 use lib.Seq.{take-append-seam, drop-append-seam, set-append-seam, drop-cons, drop-append-add, drop-drop, drop-at, take-suc, sets}
 use borrow.Author.Tests.{eq-eqb, ne-eqb, eqb-true, ltb-true, ltb-false, lt-ltb}
@@ -469,12 +469,27 @@ module _ (p : ℕ → Bool) (a n : ℕ) where
   unfolding keep
   keep-more-out e = keep-more ∙ ap (λ (l : List ℕ). keep p (run a n) ++ l) (keep-out p (a + n) [] e) ∙ append-nil (keep p (run a n))
 
--- every member from an index on, with the first of them apart
-pub every-from : (p : ℕ → Bool) (l : List ℕ) (i : ℕ) → i < length l → every p (drop i l) ≡ (p (getD l i 0) && every p (drop (i + 1) l))
-unfolding every
-every-from p l i h = ap (every p) (drop-cons l i 0 h) ∙ ap (λ (j : ℕ). p (getD l i 0) && every p (drop j l)) (sym (add-one i))
+-- members that are tested one after the other: those from i on decide, as long as none before i failed
+module _ (p : ℕ → Bool) (l : List ℕ) (i : ℕ) (decide : every p (drop i l) ≡ every p l) where
+  -- the member at i and those after it
+  every-from : i < length l → every p (drop i l) ≡ (p (getD l i 0) && every p (drop (i + 1) l))
+  unfolding every
+  every-from h = ap (every p) (drop-cons l i 0 h) ∙ ap (λ (j : ℕ). p (getD l i 0) && every p (drop j l)) (sym (add-one i))
 
--- the same of a sum
+  -- one that fails is enough
+  pub tested-no : i < length l → p (getD l i 0) ≡ false → false ≡ every p l
+  tested-no h e = sym (sym decide ∙ every-from h ∙ ap (λ (b : Bool). b && every p (drop (i + 1) l)) e)
+
+  -- after one that passes the others decide
+  pub tested-yes : i < length l → p (getD l i 0) ≡ true → every p (drop (i + 1) l) ≡ every p l
+  tested-yes h e = sym (every-from h ∙ ap (λ (b : Bool). b && every p (drop (i + 1) l)) e) ∙ decide
+
+  -- and at the end all have passed
+  pub tested-all : length l ≤ i → true ≡ every p l
+  unfolding every
+  tested-all h = sym (ap (every p) (drop-of-length-le l {i = i} h)) ∙ decide
+
+-- of a sum, the number at an index and those after it
 pub sum-from : (f : ℕ → ℕ) (l : List ℕ) (i : ℕ) → i < length l → sumOver f (drop i l) ≡ f (getD l i 0) + sumOver f (drop (i + 1) l)
 unfolding sumOver
 sum-from f l i h = ap (sumOver f) (drop-cons l i 0 h) ∙ ap (λ (j : ℕ). f (getD l i 0) + sumOver f (drop j l)) (sym (add-one i))

@@ -1,13 +1,12 @@
 -- `editor::all_zero` meets its contract. The loop's invariant: the members from `i` on decide the test. Assumes nothing.
-use Prim.Native.Nat.{ℕ, _+_, _-_}
-use mathlib.Core.Path.{_≡_, refl, sym, ap, _∙_}
-use mathlib.Core.Bool.{Bool, _&&_}
+use Prim.Native.Nat.{_-_}
+use mathlib.Core.Path.{_≡_, refl, sym}
 use native.Mathlib.Omega.{arith}
 use lib.Dec.{eqb}
 use borrow.Author.Tests.{eq-eqb, ne-eqb}
-use lib.ListN.{drop, getD, drop-of-length-le}
+use lib.ListN.{drop}
 use Rattle.words.specs.Lists.{every}
-use Rattle.words.proofs.Lists.{every-from}
+use Rattle.words.proofs.Lists.{tested-no, tested-yes, tested-all}
 use Rattle.editor.proofs.all_zero.Statement.{statement}
 use Rattle.editor.proofs.all_zero.Tie as tie
 
@@ -25,11 +24,8 @@ shared-slice-read-if1 c = omega arith
 
 returns : tie.Need-returns Inv-loop μ-loop
 returns c =
-    let l = c .before .before .before .before .args .list .now in
-    let i : ℕ = c .before .before .before .loop .i in
-    let x : ℕ = getD l i 0 in
-    sym (sym (c .before .before .before .loop .inv) ∙ every-from (eqb 0) l i (omega arith)
-    ∙ ap (λ (b : Bool). b && every (eqb 0) (drop (i + 1) l)) (ne-eqb 0 x (λ e. c .if1 .taken (sym e))))
+    let turn = c .before .before .before in
+    tested-no (eqb 0) (turn .before .args .list .now) (turn .loop .i) (turn .loop .inv) (omega arith) (ne-eqb 0 _ (λ e. c .if1 .taken (sym e)))
 
 add-i : tie.Need-add-i Inv-loop μ-loop
 add-i c = omega arith
@@ -39,17 +35,13 @@ loop-less c = omega arith
 
 loop-again : tie.Need-loop-again Inv-loop μ-loop
 loop-again c =
-    let l = c .before .before .before .before .args .list .now in
-    let i : ℕ = c .before .before .before .loop .i in
-    let x : ℕ = getD l i 0 in
-    sym (every-from (eqb 0) l i (omega arith) ∙ ap (λ (b : Bool). b && every (eqb 0) (drop (i + 1) l)) (eq-eqb 0 x (omega arith)))
-    ∙ c .before .before .before .loop .inv
+    let turn = c .before .before .before in
+    tested-yes (eqb 0) (turn .before .args .list .now) (turn .loop .i) (turn .loop .inv) (omega arith) (eq-eqb 0 _ (sym (c .if1 .left)))
 
 returns-2 : tie.Need-returns-2 Inv-loop μ-loop
-unfolding every
 returns-2 c =
-    let l = c .before .before .args .list .now in
-    sym (ap (every (eqb 0)) (drop-of-length-le l {i = c .before .loop .i} (omega arith))) ∙ c .before .loop .inv
+    let end = c .before in
+    tested-all (eqb 0) (end .before .args .list .now) (end .loop .i) (end .loop .inv) (omega arith)
 
 pub all-zero-spec : {M : Type 1} → statement M
 all-zero-spec =

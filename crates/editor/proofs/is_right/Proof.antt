@@ -12,7 +12,6 @@ use lib.Dec.{eqb, ltb, leb}
 use Rattle.words.specs.Lists.{every}
 use Rattle.words.specs.Answers.{answered}
 use Rattle.editor.specs.States.{State, said, held, past, equalAnswers, isRight}
-use Rattle.editor.specs.Private.{withAnswer}
 use Rattle.editor.proofs.is_right.Statement.{statement}
 use Rattle.editor.proofs.is_right.Tie as tie
 
@@ -71,21 +70,21 @@ returns-3 c =
     let (short, positive, zeros) = three-tests (c .before) in
     rw (short, positive, zeros ∙ not-true _ (c .if3 .taken))
 
-with-answer-requires : tie.Need-with-answer-requires
-with-answer-requires c κs = search needs
+answer-of-requires : tie.Need-answer-of-requires
+answer-of-requires c κs = search needs
 
 equal-answers-requires : tie.Need-equal-answers-requires
 equal-answers-requires c κs = search needs
 
 returns-4 : tie.Need-returns-4
-unfolding isRight held past withAnswer
+unfolding isRight held past
 returns-4 c =
     let at-zeros = c .before .before .before in
     let (short, positive, zeros) = three-tests at-zeros in
     let start = at-zeros .before .before .before .before .before .before .before .before in
     c .equal-answers .ensures
     ∙ rw (short, positive, zeros ∙ not-false _ (c .before .before .if3 .left))
-    (ap (λ (t : State). equalAnswers (answered (start .args .editor .answer)) (t .answer)) (c .before .with-answer .ensures))
+    (ap (equalAnswers (answered (start .args .editor .answer))) (c .before .answer-of .ensures))
 
 pub is-right-spec : {M : Type 1} → statement M
 is-right-spec =
@@ -100,6 +99,6 @@ is-right-spec =
     part-all-zero-end
     all-zero-requires
     returns-3
-    with-answer-requires
+    answer-of-requires
     equal-answers-requires
     returns-4)
