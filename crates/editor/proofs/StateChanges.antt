@@ -3,7 +3,7 @@
 use Prim.Native.Nat.{ℕ, _+_, _-_, _<_}
 use mathlib.Core.Path.{_≡_, refl, sym, ap, ap₂, _∙_, subst}
 use mathlib.Core.Logic.{_↔_, Iff·trans, ⊎-elim}
-use mathlib.Core.Bool.{true, false}
+use mathlib.Core.Bool.{false}
 use mathlib.Core.List.{List, [], _∷_, _++_, List·Memᴰ}
 use native.Mathlib.Omega.{arith}
 use lib.ListN.{length, set, replicate, length-append}
@@ -27,14 +27,14 @@ module _ (c : Change) (s : State) where
   change-out-of-order e = rw e
 
   -- one of a right state is that of its list
-  pub change-in-order : isRight s ≡ true → changeOf c s ≡ outcomeOf s (listChange c (held s))
+  pub change-in-order : RightState s → changeOf c s ≡ outcomeOf s (listChange c (held s))
   unfolding changeOf
-  change-in-order e = rw e
+  change-in-order h = rw (right-iff s .1 h)
 
 -- the state that holds l, where l may be held, changes as l does
 pub change-state : (c : Change) (l : List ℕ) → Holdable l → changeOf c (stateOf l) ≡ outcomeOf (stateOf l) (listChange c l)
 change-state c l h =
-    change-in-order c (stateOf l) (right-iff (stateOf l) .1 (state-right l h))
+    change-in-order c (stateOf l) (state-right l h)
     ∙ ap (λ (k : List ℕ). outcomeOf (stateOf l) (listChange c k)) (held-state l)
 
 -- ---- by the calls
@@ -102,7 +102,7 @@ module _ (s : State) where
 -- the answer for a right state is that for its list
 module _ (c : Change) (s : State) (h : RightState s) where
   answer-is : changeOf c s .answer ≡ outcomeOf s (listChange c (held s)) .answer
-  answer-is = ap (λ (o : Outcome). o .answer) (change-in-order c s (right-iff s .1 h))
+  answer-is = ap (λ (o : Outcome). o .answer) (change-in-order c s h)
 
   right-refused : (n : ℕ) → (changeOf c s .answer ≡ refused n) ↔ (listChange c (held s) ≡ refused n)
   right-refused n = let (to, from) = outcome-refused s (listChange c (held s)) n in (λ e. to (sym answer-is ∙ e), λ e. answer-is ∙ from e)
@@ -124,10 +124,10 @@ changing = record {
       Iff·trans (right-refused (addition a) s h 15)
       (Iff·trans (list-addition-15 a (held s)) (λ (p, most). (p, omega (arith, right-holdable s h .short)), λ (p, most). (p, omega arith)));
   addition-made = λ s a h positive room.
-      change-in-order (addition a) s (right-iff s .1 h) ∙ ap (outcomeOf s) (list-addition a (held s) (held s ++ a ∷ []) .1 (positive, room, refl));
+      change-in-order (addition a) s h ∙ ap (outcomeOf s) (list-addition a (held s) (held s ++ a ∷ []) .1 (positive, room, refl));
   removal-not-held = λ s a h. Iff·trans (right-refused (removal a) s h 16) (list-removal-16 a (held s));
   removal-made = λ s a h k l whole fresh.
       let there = subst (List·Memᴰ a) (sym whole) (mem-middle k l a) in
       let left : k ++ l ≡ withoutFirst a (held s) = sym (ap (withoutFirst a) whole ∙ without-first-is a k l fresh) in
-      change-in-order (removal a) s (right-iff s .1 h) ∙ ap (outcomeOf s) (list-removal a (held s) (k ++ l) .1 (there, left));
+      change-in-order (removal a) s h ∙ ap (outcomeOf s) (list-removal a (held s) (k ++ l) .1 (there, left));
 }

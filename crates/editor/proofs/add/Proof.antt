@@ -1,18 +1,16 @@
 -- `editor::add` meets its contract: the questions one after the other, and the byte stored behind those that are held. Assumes nothing.
 use Prim.Native.Nat.{ℕ}
-use mathlib.Core.Path.{_≡_, refl, sym, ap, _∙_}
-use mathlib.Core.Bool.{true}
-use mathlib.Core.List.{[], _∷_, _++_}
+use mathlib.Core.Path.{_≡_, sym, ap, _∙_}
 use native.Mathlib.Omega.{arith}
 use lib.ListN.{length}
 use borrow.Author.Needs.{needs}
 use borrow.Author.Tests.{not-true, not-false}
 use Rattle.words.specs.Answers.{given}
 use Rattle.editor.specs.Changes.{addition}
-use Rattle.editor.specs.States.{State, said, held, isRight, outcomeOf}
-use Rattle.editor.proofs.Changes.{list-addition, list-addition-7, list-addition-15}
+use Rattle.editor.specs.States.{State, said, held, RightState, outcomeOf}
+use Rattle.editor.proofs.Changes.{list-addition-7, list-addition-15}
 use Rattle.editor.proofs.States.{right-iff}
-use Rattle.editor.proofs.StateChanges.{change-out-of-order, change-in-order, held-length, stored-behind}
+use Rattle.editor.proofs.StateChanges.{change-out-of-order, change-in-order, held-length, stored-behind, changing}
 use Rattle.editor.proofs.add.Statement.{statement}
 use Rattle.editor.proofs.add.Tie as tie
 
@@ -37,8 +35,8 @@ refuse-requires-2 : tie.Need-refuse-requires-2
 refuse-requires-2 c κs = search needs
 
 -- the state is right
-right-before : (c : tie.Else1) → let s : State = said (c .before .before .args .editor) in isRight s ≡ true
-right-before c = sym (c .before .is-right .ensures) ∙ not-false _ (c .if1 .left)
+right-before : (c : tie.Else1) → RightState (said (c .before .before .args .editor))
+right-before c = right-iff _ .0 (sym (c .before .is-right .ensures) ∙ not-false _ (c .if1 .left))
 
 returns-2 : tie.Need-returns-2
 returns-2 c =
@@ -58,7 +56,7 @@ returns-3 c =
     let start = at-right .before .before in
     let s : State = said (start .args .editor) in
     let a : ℕ = start .args .byte in
-    let length-is = held-length s (sixteen start) (right-iff s .0 (right-before at-right)) in
+    let length-is = held-length s (sixteen start) (right-before at-right) in
     c .refuse3 .ensures
     ∙ sym (change-in-order (addition a) s (right-before at-right)
     ∙ ap (outcomeOf s) (list-addition-15 a (held s) .1 (omega (arith, c .before .before .if2 .left, c .before .if3 .taken, length-is))))
@@ -79,11 +77,10 @@ returns-4 c =
     let start = at-right .before .before in
     let s : State = said (start .args .editor) in
     let a : ℕ = start .args .byte in
-    let in-order = right-iff s .0 (right-before at-right) in
+    let in-order = right-before at-right in
     let stored = c .with-answer .ensures ∙ stored-behind s (sixteen start) in-order a (omega arith) in
-    let asked = list-addition a (held s) (held s ++ a ∷ []) .1 (omega arith, omega (arith, held-length s (sixteen start) in-order), refl) in
     ap (λ (t : State). record { state = t; answer = given tt }) stored
-    ∙ sym (change-in-order (addition a) s (right-before at-right) ∙ ap (outcomeOf s) asked)
+    ∙ sym (changing .addition-made s a in-order (omega arith) (omega (arith, held-length s (sixteen start) in-order)))
 
 pub add-spec : {M : Type 1} → statement M
 add-spec =

@@ -1,7 +1,6 @@
 -- `editor::remove` meets its contract: the questions one after the other, and the list without the first equal byte stored. Assumes nothing.
 use Prim.Native.Nat.{ℕ, _-_, _<_}
 use mathlib.Core.Path.{_≡_, refl, sym, ap, _∙_}
-use mathlib.Core.Bool.{true}
 use mathlib.Core.List.{List}
 use native.Mathlib.Omega.{arith}
 use lib.ListN.{length, length-take}
@@ -9,7 +8,7 @@ use borrow.Author.Needs.{needs}
 use borrow.Author.Tests.{not-true, not-false}
 use Rattle.words.specs.Answers.{given}
 use Rattle.editor.specs.Changes.{removal, withoutFirst}
-use Rattle.editor.specs.States.{State, said, held, isRight, inSixteen, outcomeOf}
+use Rattle.editor.specs.States.{State, said, held, RightState, inSixteen, outcomeOf}
 use Rattle.editor.specs.Private.{firstPlace, withoutPlace, withAnswer}
 use Rattle.editor.proofs.Changes.{list-removal, list-removal-16}
 use Rattle.editor.proofs.States.{right-iff}
@@ -36,18 +35,18 @@ returns c =
     ∙ sym (change-out-of-order (removal (at-right .before .args .byte)) s (sym (at-right .is-right .ensures) ∙ not-true _ (c .before .if1 .taken)))
 
 -- the state is right
-right-before : (c : tie.Else1) → let s : State = said (c .before .before .args .editor) in isRight s ≡ true
-right-before c = sym (c .before .is-right .ensures) ∙ not-false _ (c .if1 .left)
+right-before : (c : tie.Else1) → RightState (said (c .before .before .args .editor))
+right-before c = right-iff _ .0 (sym (c .before .is-right .ensures) ∙ not-false _ (c .if1 .left))
 
 array-share-prefix-bytes : tie.Need-array-share-prefix-bytes
 array-share-prefix-bytes c =
     let start = c .before .before .before in
-    omega (arith, sixteen start, right-iff (said (start .args .editor)) .0 (right-before (c .before)) .short)
+    omega (arith, sixteen start, right-before (c .before) .short)
 
 slice-aggregate-first-place : tie.Need-slice-aggregate-first-place
 slice-aggregate-first-place c =
     let start = c .before .before .before .before in
-    omega (arith, length-take (start .args .editor .length) (start .args .editor .bytes), sixteen start, right-iff (said (start .args .editor)) .0 (right-before (c .before .before)) .short)
+    omega (arith, length-take (start .args .editor .length) (start .args .editor .bytes), sixteen start, right-before (c .before .before) .short)
 
 first-place-requires : tie.Need-first-place-requires
 first-place-requires c κs = search needs
@@ -63,14 +62,14 @@ returns-2 c =
     let start = at-right .before .before in
     let s : State = said (start .args .editor) in
     let a : ℕ = start .args .byte in
-    let all : s .length ≡ length (held s) = held-length s (sixteen start) (right-iff s .0 (right-before at-right)) in
+    let all : s .length ≡ length (held s) = held-length s (sixteen start) (right-before at-right) in
     c .refuse2 .ensures
     ∙ sym (change-in-order (removal a) s (right-before at-right) ∙ ap (outcomeOf s) (list-removal-16 a (held s) .1 (λ m. omega (arith, first-place-iff a (held s) .0 m, at-place .first-place .ensures))))
 
 without-place-requires : tie.Need-without-place-requires
 without-place-requires c κs =
     let at-right = c .before .before .before .before in
-    (omega arith, right-iff (said (at-right .before .before .args .editor)) .0 (right-before at-right) .short)
+    (omega arith, right-before at-right .short)
 
 sub-with-answer : tie.Need-sub-with-answer
 sub-with-answer c = search needs
@@ -78,7 +77,7 @@ sub-with-answer c = search needs
 with-answer-requires : tie.Need-with-answer-requires
 with-answer-requires c κs =
     let at-right = c .before .before .before .before .before in
-    omega (arith, right-iff (said (at-right .before .before .args .editor)) .0 (right-before at-right) .short)
+    omega (arith, right-before at-right .short)
 
 returns-3 : tie.Need-returns-3
 unfolding held
@@ -88,7 +87,7 @@ returns-3 c =
     let start = at-right .before .before in
     let s : State = said (start .args .editor) in
     let a : ℕ = start .args .byte in
-    let in-order = right-iff s .0 (right-before at-right) in
+    let in-order = right-before at-right in
     let all : s .length ≡ length (held s) = held-length s (sixteen start) in-order in
     let place = at-place .first-place .ensures in
     let here : firstPlace a (held s) < s .length = omega (arith, place) in
