@@ -14,7 +14,8 @@ use Rattle.words.proofs.Booleans.{not-both, by-value}
 use Rattle.words.proofs.Lists.{nothing, keep-mem, mem-keep, ordered-keep, ordered-map, ordered-unique}
 use Rattle.words.proofs.Words.{GapList, word-lt, gaps-of-word, word-of-gaps}
 use Rattle.words.proofs.Closure.{closed-iff}
-use Rattle.words.proofs.GenusList.{genus-list-mem, mem-genus-list, genus-list-ordered, earlier-asym, kept-all}
+use Rattle.words.proofs.ListOrder.{earlier-asym}
+use Rattle.words.proofs.GenusList.{genus-list-mem, mem-genus-list, genus-list-ordered, kept-all}
 use Rattle.words.specs.Answers.{given}
 use Rattle.elementary.specs.Elementary.{IsElementary, elementary, elementaryList, elementaryCount, AllElementary, binomial, inRange, formula}
 use Rattle.elementary.specs.Answers.{elementaryOf}

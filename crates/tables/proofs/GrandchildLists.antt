@@ -17,7 +17,7 @@ use Rattle.words.specs.GenusList.{Before}
 use Rattle.words.specs.GapLists.{extensions}
 use Rattle.words.proofs.Lists.{keep-mem, mem-keep, joined-mem, mem-joined, length-joined, ordered-append, ordered-keep, ordered-map, ordered-joined, ordered-unique, sum-same, sum-plus}
 use Rattle.words.proofs.Elements.{multiplicity-pos, generator-below, right-generators-mem, mem-right-generators, right-generators-ordered}
-use Rattle.words.proofs.GenusList.{before-asym, before-append}
+use Rattle.words.proofs.ListOrder.{before-asym, before-append}
 use Rattle.words.proofs.GapLists.{extensions-all, two-more-iff}
 use Rattle.tables.specs.Grandchildren.{grandchildCount, pairs}
 use Rattle.tables.proofs.Pairs.{later-pairs}

@@ -20,7 +20,8 @@ use Rattle.words.proofs.Lists.{nothing, keep-mem, mem-keep, ordered-keep, order
 use Rattle.words.proofs.Kept.{keep-same, keep-all, keep-apart, on-from-keep}
 use Rattle.words.proofs.Sets.{multiplicity-unique}
 use Rattle.words.proofs.Elements.{multiplicity-pos, multiplicity-le-genus, set-multiplicity}
-use Rattle.words.proofs.GenusList.{WordOfGenus, genus-list-mem, mem-genus-list, genus-list-ordered, earlier-asym, kept-all}
+use Rattle.words.proofs.ListOrder.{earlier-asym}
+use Rattle.words.proofs.GenusList.{WordOfGenus, genus-list-mem, mem-genus-list, genus-list-ordered, kept-all}
 use Rattle.windows.specs.Windows.{within, windowList, leastMultiplicity, MultiplicityWithin, InWindow, AllInWindow}
 use Rattle.windows.proofs.Multiplicities.{earlier-multiplicity, multiplicity-low}
 

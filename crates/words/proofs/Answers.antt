@@ -126,6 +126,16 @@ pub asked : {A : Type 0} (refuse : ℕ → A) (w : ℕ) (answer : A) → Accepte
 unfolding askWord
 asked refuse w answer h = simp (le-leb (genus w) 32 (h .few), h .closed)
 
+-- an accepted word and a genus: questions 1, 2 and 3
+module _ {A : Type 0} (w g : ℕ) (answer : Answer A) (h : Accepted w) where
+  -- up to genus 32 there is an answer
+  pub genus-asked : g ≤ 32 → askWord refused w (ask (leb g 32) (refused 3) answer) ≡ answer
+  genus-asked l = asked refused w _ h ∙ rw (le-leb g 32 l)
+
+  -- above it a refusal
+  pub genus-refused : 32 < g → askWord refused w (ask (leb g 32) (refused 3) answer) ≡ refused 3
+  genus-refused l = asked refused w _ h ∙ rw (lt-leb g 32 l)
+
 -- what the answer of one call on a word, which gives this value, tells another
 module _ {B : Type 0} (w : ℕ) (value : B) where
   -- a word that is refused by one call is refused so by each call

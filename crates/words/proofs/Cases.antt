@@ -7,14 +7,15 @@ use native.Mathlib.Omega.{arith}
 use native.Mathlib.Nat.{zero-add}
 use lib.IntN.{pos, negsuc}
 use lib.ListN.{length, getD}
-use Rattle.words.specs.Lists.{none, run, keep, keepIf, every, joined, lastOr}
+use Rattle.words.specs.Lists.{none, run, keep, keepIf, every, joined, lastOr, begins}
 use Rattle.words.specs.Sets.{sumOfTwo}
 use Rattle.words.specs.Words.{bit, setOf, gaps, genus, largestGap, conductor, reportedConductor, signedLargestGap, closed, childWord}
 use Rattle.words.specs.Elements.{multiplicity, generator, rightGenerators}
-use Rattle.words.specs.GenusList.{genusList}
+use Rattle.words.specs.GenusList.{genusList, descendants}
 use Rattle.words.specs.Answers.{refused, given, askWord, reportOf, lookOf}
 use Rattle.words.proofs.Lists.{map-run, getD-map-run}
 use Rattle.words.specs.Tree.{leaves}
+use Rattle.words.specs.Relatives.{comesBefore, wordsBefore, wordsAfter}
 use Rattle.words.proofs.Leaves.{genus-list-leaves}
 
 -- the genus lists of genus 0 to 4
@@ -34,6 +35,13 @@ known-lists = (
 pub known-list : (g : ℕ) → g < 5 → genusList g ≡ getD knownLists g []
 unfolding run
 known-list g h = sym (getD-map-run genusList [] 0 5 g h ∙ ap genusList (zero-add g)) ∙ ap (λ (l : List (List ℕ)). getD l g []) (known-lists .0)
+
+-- genus 4 cut by the word 11, whose gaps are 1, 2 and 4: the words before it, its two descendants and the word after it; and by the word 19,
+-- whose gaps are 1, 2 and 5 and which has no descendant there
+pub known-stretches : map (λ w. wordsBefore 4 w ∷ descendants 4 w ∷ wordsAfter 4 w ∷ []) (11 ∷ 19 ∷ [])
+    ≡ ((15 ∷ 23 ∷ 39 ∷ 71 ∷ []) ∷ (27 ∷ 75 ∷ []) ∷ (85 ∷ []) ∷ []) ∷ ((15 ∷ 23 ∷ 39 ∷ 71 ∷ 27 ∷ 75 ∷ []) ∷ [] ∷ (85 ∷ []) ∷ []) ∷ []
+unfolding run keep begins bit setOf gaps descendants comesBefore wordsBefore wordsAfter
+known-stretches = rw (known-list 4 (omega arith))
 
 -- the looks at the words 0, 1, 5, 111, 91, 13, that of the gaps 1 to 32, and that of the gaps 1 to 33
 pub known-looks : map lookOf (0 ∷ 1 ∷ 5 ∷ 111 ∷ 91 ∷ 13 ∷ 4294967295 ∷ 8589934591 ∷ [])

@@ -14,7 +14,7 @@ use Rattle.words.specs.Lists.{every, lastOr, Ordered}
 use Rattle.words.specs.Sets.{Set, without, sumOfTwo, NumericalSemigroup, GapsOf}
 use Rattle.words.specs.Words.{setOf, gaps, genus, conductor, closed}
 use Rattle.words.specs.Elements.{generator}
-use Rattle.words.specs.GenusList.{risings, descendants, descendantCount, Before, Earlier}
+use Rattle.words.specs.GenusList.{risings, descendants, descendantCount, Before, Earlier, AllOf}
 use Rattle.words.specs.GapLists.{setMissing, closedGaps, extensions, Extends, AllGapLists}
 use Rattle.words.proofs.Booleans.{not-both, is-true, is-false}
 use Rattle.words.proofs.Lists.{Rising, rising-nil, rising-cons, rising-tail, keep-mem, mem-keep, every-mem, every-same, every-false, every-append, ordered-parts, ordered-keep, ordered-map, ordered-once, ordered-unique, le-last}
@@ -23,8 +23,9 @@ use Rattle.words.proofs.Words.{gaps-mem, gaps-of}
 use Rattle.words.proofs.Counting.{gap-bound}
 use Rattle.words.proofs.Elements.{rise-behind, behind-conductor, gap-below-conductor, generator-from-conductor}
 use Rattle.words.proofs.Closure.{closed-semigroup}
-use Rattle.words.proofs.GenusList.{risings-mem, mem-risings, risings-ordered, before-asym, before-append, genus-list-mem, genus-list-complete}
-use Rattle.words.proofs.Tree.{Descendant, descendants-mem, mem-descendants, descendants-ordered, others-length}
+use Rattle.words.proofs.ListOrder.{before-asym, earlier-asym, before-append}
+use Rattle.words.proofs.GenusList.{risings-mem, mem-risings, risings-ordered, genus-list-mem, genus-list-complete}
+use Rattle.words.proofs.Tree.{descendants-mem, mem-descendants, descendants-ordered, others-length}
 
 -- ---- the set that misses the numbers of a list
 
@@ -104,6 +105,21 @@ gap-lists-unique P k l a b = ordered-unique Before before-asym k l (a .ordered) 
         let (y, h, n) = b .all S p in
         Memᴰ·cast (gaps-unique S x y g h) n
 
+-- a list of the words of all sets with P gives that of their gap lists
+all-gap-lists : (P : Set → Type 0) (l : List ℕ) → AllOf P l → AllGapLists P (map gaps l)
+all-gap-lists P l a =
+    let ordered = ordered-map Earlier Before gaps l (a .ordered) (λ u v i j b. b) in
+    record {
+      only = λ k m.
+          let (v, i, e) = Memᴰ·of-map gaps l m in
+          (setOf v, a .only v i, subst (GapsOf (setOf v)) e (gaps-of v (a .fits v i)));
+      all = λ S p.
+          let (v, same, i) = a .all S p in
+          (gaps v, subst (λ (T : Set). GapsOf T (gaps v)) (fun-ext same) (gaps-of v (a .fits v i)), Memᴰ·map gaps i);
+      ordered = ordered;
+      once = lists-once (map gaps l) ordered;
+    }
+
 -- ---- the lists that go on from the gaps of a word
 
 module _ (r w : ℕ) where
@@ -161,34 +177,28 @@ module _ (r w : ℕ) where
     once = lists-once (extensions r w) extensions-ordered;
   }
 
-  -- up to genus 32 so are the gaps of the descendants of w
-  descendants-all : g ≤ 32 → AllGapLists (Extends r w) (map gaps (descendants g w))
+  -- up to genus 32 the descendants of w are the words of these
+  pub descendants-all : genus w + r ≤ 32 → AllOf (Extends r w) (descendants (genus w + r) w)
   unfolding genus
-  descendants-all range =
-      let ordered = ordered-map Earlier Before gaps (descendants g w) (descendants-ordered g w) (λ u v i j b. b) in
-      record {
-        only = λ k m.
-            let (v, i, e) = Memᴰ·of-map gaps (descendants g w) m in
-            let d = descendants-mem g w i in
-            let o : GapsOf (setOf v) (gaps v) = gaps-of v (d .word .fits) in
-            let count : length (d .others) ≡ r = omega (arith, others-length g w d) in (
-              setOf v,
-              (closed-semigroup v (d .word .fits) (d .word .closed), (d .others, subst (GapsOf (setOf v)) (sym (d .split)) o, count)),
-              subst (GapsOf (setOf v)) e o,
-            );
-        all = λ S (s, (l, o, count)).
-            let (v, fits, same, m) = genus-list-complete S g s (gaps w ++ l, o, omega (arith, length-append (gaps w) l)) range in
-            let p : GapsOf S (gaps v) = subst (λ (T : Set). GapsOf T (gaps v)) (fun-ext same) (gaps-of v fits) in
-            let d : Descendant g w v = record { word = genus-list-mem g m; others = l; split = gaps-unique S (gaps w ++ l) (gaps v) o p } in
-            (gaps v, p, Memᴰ·map gaps (mem-descendants g w v d));
-        ordered = ordered;
-        once = lists-once (map gaps (descendants g w)) ordered;
-      }
+  descendants-all range = record {
+    fits = λ v m. descendants-mem g w m .word .fits;
+    only = λ v m.
+        let d = descendants-mem g w m in
+        let count : length (d .others) ≡ r = omega (arith, others-length g w d) in
+        (closed-semigroup v (d .word .fits) (d .word .closed), (d .others, subst (GapsOf (setOf v)) (sym (d .split)) (gaps-of v (d .word .fits)), count));
+    all = λ S (s, (l, o, count)).
+        let (v, fits, same, m) = genus-list-complete S g s (gaps w ++ l, o, omega (arith, length-append (gaps w) l)) range in
+        let p : GapsOf S (gaps v) = subst (λ (T : Set). GapsOf T (gaps v)) (fun-ext same) (gaps-of v fits) in
+        (v, same, mem-descendants g w v record { word = genus-list-mem g m; others = l; split = gaps-unique S (gaps w ++ l) (gaps v) o p });
+    ordered = descendants-ordered g w;
+    once = ordered-once Earlier earlier-asym ℕ-set (descendants g w) (descendants-ordered g w);
+  }
 
   -- so they are the gaps of the descendants, in the order of the genus list
   pub extensions-descendants : genus w + r ≤ 32 → extensions r w ≡ map gaps (descendants (genus w + r) w)
   extensions-descendants range =
-      gap-lists-unique (Extends r w) (extensions r w) (map gaps (descendants g w)) extensions-all (descendants-all range)
+      gap-lists-unique (Extends r w) (extensions r w) (map gaps (descendants g w)) extensions-all
+      (all-gap-lists (Extends r w) (descendants g w) (descendants-all range))
 
   -- and as many
   pub extensions-count : genus w + r ≤ 32 → length (extensions r w) ≡ descendantCount (genus w + r) w

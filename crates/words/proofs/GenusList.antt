@@ -1,9 +1,9 @@
 -- The genus list of g holds the words of the numerical semigroups of genus g, each once and in list order. Assumes nothing.
 use Prim.Native.Nat.{ℕ, zero, suc, _-_, _^_, _≤_, _<_}
 use mathlib.Core.Path.{_≡_, refl, sym, _∙_, ap, subst, subst₂, fun-ext}
-use mathlib.Core.Logic.{_≢_, _↔_, inl, inr}
+use mathlib.Core.Logic.{_≢_, _↔_, inl}
 use mathlib.Core.Bool.{Bool, true}
-use mathlib.Core.List.{List, [], _∷_, _++_, map, List·Memᴰ, List·Memᴰ·head, List·Memᴰ·eq-of-singleton, Memᴰ·map, Memᴰ·of-map, Memᴰ·cast}
+use mathlib.Core.List.{List, [], _∷_, map, List·Memᴰ, List·Memᴰ·head, List·Memᴰ·eq-of-singleton, Memᴰ·map, Memᴰ·of-map, Memᴰ·cast}
 use native.Mathlib.Omega.{arith}
 use native.Mathlib.Nat.{ℕ-set}
 use lib.ListN.{length}
@@ -14,6 +14,7 @@ use Rattle.words.specs.GenusList.{risings, genusList, Before, Earlier, A
 use Rattle.words.proofs.Lists.{Rising, rising-nil, rising-cons, rising-tail, run-mem, mem-run, keep-mem, mem-keep, joined-mem, mem-joined, ordered-run, ordered-one, ordered-keep, ordered-joined, ordered-map, ordered-once, ordered-unique}
 use Rattle.words.proofs.Sets.{gap-positive, gaps-unique, same-of-gaps}
 use Rattle.words.proofs.Words.{GapList, gaps-of, word-genus, word-lt, same-set, word-gaps, gaps-of-word, gaps-list, word-of-gaps, genus-zero}
+use Rattle.words.proofs.ListOrder.{ordered-behind, earlier-asym}
 use Rattle.words.proofs.Counting.{gap-bound}
 use Rattle.words.proofs.Closure.{closed-iff, closed-semigroup}
 
@@ -108,26 +109,6 @@ genus-list-complete S g s (l, o, e) h =
     let same = same-of-gaps (setOf w) S l (word-gaps l i) o in
     (w, word-lt l i, same, genus-list-word g w (word-lt l i) (subst NumericalSemigroup (sym (fun-ext same)) s) (l, word-gaps l i, e))
 
--- ---- list order
-
-pub before-asym : (k l : List ℕ) → Before k l → Before l k → ⊥
-unfolding Before
-before-asym [] l b c = b
-before-asym (x ∷ k) [] b c = b
-before-asym (x ∷ k) (y ∷ l) (inl h) (inl i) = omega arith
-before-asym (x ∷ k) (y ∷ l) (inl h) (inr c) = omega arith
-before-asym (x ∷ k) (y ∷ l) (inr b) (inl i) = omega arith
-before-asym (x ∷ k) (y ∷ l) (inr b) (inr c) = before-asym k l (b .1) (c .1)
-
--- it stays behind the same beginning
-pub before-append : (k l m : List ℕ) → Before l m → Before (k ++ l) (k ++ m)
-unfolding Before
-before-append [] l m b = b
-before-append (x ∷ k) l m b = inr (refl, before-append k l m b)
-
-pub ordered-behind : (x : ℕ) (l : List (List ℕ)) → Ordered Before l → Ordered Before (map (λ k. x ∷ k) l)
-ordered-behind x l o = ordered-map Before Before (λ k. x ∷ k) l o (λ k m i j. before-append (x ∷ []) k m)
-
 -- ---- the order of the genus list
 
 -- rising lists are in list order
@@ -150,9 +131,6 @@ genus-list-ordered g =
     ordered-keep Earlier closed (map wordOf (risings g 1 64))
     (ordered-map Before Earlier wordOf (risings g 1 64) (risings-ordered g 1 64)
     (λ k l m n b. subst₂ Before (sym (gaps-of-word k (risings-mem g 1 64 m .0))) (sym (gaps-of-word l (risings-mem g 1 64 n .0))) b))
-
-pub earlier-asym : (v w : ℕ) → Earlier v w → Earlier w v → ⊥
-earlier-asym v w = before-asym (gaps v) (gaps w)
 
 -- so it holds each word once
 pub genus-list-once : (g w : ℕ) (m k : List·Memᴰ w (genusList g)) → m ≡ k

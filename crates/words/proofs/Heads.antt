@@ -12,7 +12,7 @@ use Rattle.words.proofs.Lists.{nothing}
 use Rattle.words.proofs.Kept.{ordered-first}
 use Rattle.words.proofs.Sets.{gaps-unique}
 use Rattle.words.proofs.Words.{gaps-of, same-set}
-use Rattle.words.proofs.GenusList.{before-asym}
+use Rattle.words.proofs.ListOrder.{before-asym}
 
 module _ {A : Type 0} where
   -- a list without a first is empty

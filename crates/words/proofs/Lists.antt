@@ -278,6 +278,12 @@ module _ {A B : Type 0} where
   joined-append f [] l = refl
   joined-append f (x ∷ k) l = ap (λ (t : List B). f x ++ t) (joined-append f k l) ∙ sym (append-assoc (f x) (joined f k) (joined f l))
 
+  -- what is joined along a joined list is joined twice
+  pub joined-joined : {C : Type 0} (f : A → List B) (h : C → List A) (l : List C) → joined f (joined h l) ≡ joined (λ x. joined f (h x)) l
+  unfolding joined
+  joined-joined f h [] = refl
+  joined-joined f h (x ∷ l) = joined-append f (h x) (joined h l) ∙ ap (λ (t : List B). joined f (h x) ++ t) (joined-joined f h l)
+
   pub joined-map : {C : Type 0} (f : A → List B) (h : C → A) (l : List C) → joined f (map h l) ≡ joined (λ x. f (h x)) l
   unfolding joined
   joined-map f h [] = refl
