@@ -60,11 +60,8 @@ module _ (g lo hi : ℕ) where
   served r [] = []
   served r (lent ∷ lents) = made g lo hi r lent ∷ served (drop (n g lo hi r lent) r) lents
 
-  abbrev L : List ℕ
-  L = windowList g lo hi
-
   -- r is an end of the window
-  pub batches-served : g ≤ 32 → (k r : List ℕ) → k ++ r ≡ L → (lents : List (List ℕ)) → batches atlas (standing g lo hi r) lents ≡ served r lents
+  pub batches-served : g ≤ 32 → (k r : List ℕ) → k ++ r ≡ windowList g lo hi → (lents : List (List ℕ)) → batches atlas (standing g lo hi r) lents ≡ served r lents
   unfolding batches served standing
   batches-served small k r e [] = refl
   batches-served small k r e (lent ∷ lents) =
@@ -72,6 +69,9 @@ module _ (g lo hi : ℕ) where
       ∙ ap (λ (calls : List Call). made g lo hi r lent ∷ calls)
       (batches-served small (k ++ take (n g lo hi r lent) r) (drop (n g lo hi r lent) r) (end-drop (n g lo hi r lent) k r e) lents)
 
+-- ---- the words of a list L, from a walk that has L still to give
+
+module _ (g lo hi : ℕ) (L : List ℕ) where
   -- the calls so far wrote the first N
   abbrev WroteFirst : List Call → Type 0
   WroteFirst calls = joined wrote calls ≡ take (N L calls) L
@@ -123,7 +123,7 @@ module _ (g lo hi : ℕ) where
 
   -- so it holds after each of the calls that follow
   after-each : (calls : List Call) → WroteFirst calls → (lents : List (List ℕ)) (before after : List Call) (c : Call)
-      → served (drop (N L calls) L) lents ≡ before ++ c ∷ after → AfterCall L (length L) (calls ++ before) c
+      → served g lo hi (drop (N L calls) L) lents ≡ before ++ c ∷ after → AfterCall L (length L) (calls ++ before) c
   unfolding served
   after-each calls h [] [] after c e = absurd (nil≢cons e)
   after-each calls h [] (b ∷ before) after c e = absurd (nil≢cons e)
@@ -133,30 +133,50 @@ module _ (g lo hi : ℕ) where
       let next : Call = made g lo hi (r calls h lent) lent in
       rw (← head-eq-of-cons-eq e, ← append-assoc calls (next ∷ []) before)
       (after-each (calls ++ next ∷ []) (words calls h lent) lents before after c
-      (ap (λ (t : List ℕ). served t lents) (sym (left calls h lent)) ∙ tail-eq-of-cons-eq e))
+      (ap (λ (t : List ℕ). served g lo hi t lents) (sym (left calls h lent)) ∙ tail-eq-of-cons-eq e))
 
-  -- the demand for the walk that has the window still to give
-  demanded : g ≤ 32 → (answer : Answer Walk) → answer ≡ given (standing g lo hi L) → (lents : List (List ℕ)) → Demanded atlas answer L (length L) lents
-  unfolding joined
-  demanded small answer answers lents =
-      let fresh : Walk = standing g lo hi L in
-      let none-yet : WroteFirst [] = ap (λ (m : ℕ). take m L) (sym start) in
-      let all-left : L ≡ drop (N L []) L = ap (λ (m : ℕ). drop m L) (sym start) in
-      record {
-        fresh = fresh;
-        fresh-answers = answers;
-        start = start;
-        lent-each = lent-each fresh lents;
-        each = λ before after c e.
-            after-each [] none-yet lents before after c
-            (ap (λ (t : List ℕ). served t lents) (sym all-left) ∙ sym (batches-served small [] L refl lents) ∙ e);
-        how-many = refl;
-      }
+  -- and all of them write the first N
+  all-wrote : (calls : List Call) → WroteFirst calls → (lents : List (List ℕ)) → WroteFirst (calls ++ served g lo hi (drop (N L calls) L) lents)
+  unfolding served
+  all-wrote calls h [] = rw append-nil h
+  all-wrote calls h (lent ∷ lents) =
+      let next : Call = made g lo hi (r calls h lent) lent in
+      subst WroteFirst
+      (append-assoc calls (next ∷ []) (served g lo hi (drop (N L (calls ++ next ∷ [])) L) lents)
+      ∙ ap (λ (t : List ℕ). calls ++ next ∷ served g lo hi t lents) (sym (left calls h lent)))
+      (all-wrote (calls ++ next ∷ []) (words calls h lent) lents)
+
+  -- L is an end of the window
+  module _ (k : List ℕ) (e : k ++ L ≡ windowList g lo hi) (small : g ≤ 32) where
+    abbrev begun : Walk
+    begun = standing g lo hi L
+
+    none-yet : WroteFirst []
+    unfolding joined
+    none-yet = ap (λ (m : ℕ). take m L) (sym start)
+
+    from-first : (lents : List (List ℕ)) → batches atlas begun lents ≡ served g lo hi (drop (N L []) L) lents
+    from-first lents = batches-served g lo hi small k L e lents ∙ ap (λ (m : ℕ). served g lo hi (drop m L) lents) (sym start)
+
+    -- the demand for the walk that has L still to give
+    pub demanded : (answer : Answer Walk) → answer ≡ given begun → (lents : List (List ℕ)) → Demanded atlas answer L (length L) lents
+    demanded answer answers lents = record {
+      fresh = begun;
+      fresh-answers = answers;
+      start = start;
+      lent-each = lent-each begun lents;
+      each = λ before after c e. after-each [] none-yet lents before after c (sym (from-first lents) ∙ e);
+      how-many = refl;
+    }
+
+    -- its batches write the first N
+    pub batches-wrote : (lents : List (List ℕ)) → WroteFirst (batches atlas begun lents)
+    batches-wrote lents = subst WroteFirst (sym (from-first lents)) (all-wrote [] none-yet lents)
 
 -- in a window, from the fresh call with one
 demanded-in-window : (g lo hi : ℕ) → g ≤ 32 → (lents : List (List ℕ)) → DemandedInWindow atlas g lo hi lents
 demanded-in-window g lo hi small lents = record {
-  demanded = demanded g lo hi small (freshInOf g lo hi) (fresh-in-answers g lo hi small) lents;
+  demanded = demanded g lo hi (windowList g lo hi) [] refl small (freshInOf g lo hi) (fresh-in-answers g lo hi small) lents;
   list = window-all g lo hi small;
 }
 
@@ -168,7 +188,7 @@ demanded-of-genus g small lents = record {
   count-answers = count-all g small;
   demanded =
       subst (λ (l : List ℕ). Demanded atlas (freshOf g) l (length l) lents) (window-whole g small)
-      (demanded g 1 33 small (freshOf g) (fresh-in-answers g 1 33 small) lents);
+      (demanded g 1 33 (windowList g 1 33) [] refl small (freshOf g) (fresh-in-answers g 1 33 small) lents);
   list = genus-list-all g small;
 }
 

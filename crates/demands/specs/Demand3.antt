@@ -75,9 +75,9 @@ pub record AfterCall (l : List ℕ) (number : ℕ) (before : List Call) (c : Cal
   -- it says finished exactly when N equals the number
   pub finished : (report .finished ≡ true) ↔ (N l (before ++ c ∷ []) ≡ number)
 
--- the demand for a fresh call that gave this answer, whose walk is to list l, and any lists, lent one to each batch
+-- the demand for a call that begins a walk and gave this answer, whose walk is to list l, and any lists, lent one to each batch
 pub record Demanded (A : Atlas) (answer : Answer Walk) (l : List ℕ) (number : ℕ) (lents : List (List ℕ)) : Type 0 where
-  -- the fresh call answers
+  -- the call answers
   pub fresh : Walk
   pub fresh-answers : answer ≡ given fresh
   -- before the first batch, N is 0

@@ -1,2 +1,3 @@
 pub mod Demand3
 pub mod Useful
+pub mod Relatives

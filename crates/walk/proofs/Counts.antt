@@ -6,15 +6,14 @@ use mathlib.Core.List.{List}
 use native.Mathlib.Omega.{arith}
 use lib.Dec.{leb}
 use lib.ListN.{length}
-use borrow.Author.Tests.{lt-leb}
 use Rattle.words.specs.Words.{genus}
 use Rattle.words.specs.Lists.{none}
-use Rattle.words.specs.GenusList.{descendants, descendantCount}
+use Rattle.words.specs.GenusList.{descendantCount}
 use Rattle.words.specs.Answers.{Answer, refused, given, ask, Accepted}
-use Rattle.words.proofs.Answers.{asked}
+use Rattle.words.proofs.Answers.{asked, genus-refused}
 use Rattle.words.proofs.First.{genus-list-first}
 use Rattle.words.specs.Tree.{leaves}
-use Rattle.words.proofs.Leaves.{descendants-leaves}
+use Rattle.words.proofs.Leaves.{descendants-at}
 use Rattle.tables.specs.Answers.{grandchildrenOf}
 use Rattle.tables.proofs.GrandchildCounts.{grandchildren-descendants}
 use Rattle.windows.specs.Windows.{windowList}
@@ -48,15 +47,12 @@ fresh-given g h = let (l, e) = genus-list-first g (omega arith) in fresh-answers
 module _ (w g : ℕ) (h : Accepted w) where
   pub count-refused : 32 < g → countOf w g ≡ refused 3
   unfolding countOf
-  count-refused l = asked refused w _ h ∙ simp (lt-leb g 32 l)
+  count-refused = genus-refused w g _ h
 
   -- from it on, the words below it
   pub count-leaves : g ≤ 32 → genus w ≤ g → w < 2 ^ 64 → countOf w g ≡ given (length (leaves (g - genus w) w))
   unfolding descendantCount
-  count-leaves l k fits =
-      let sum : g ≡ genus w + (g - genus w) = omega arith in
-      count-answers w g h l ∙ ap (λ (n : ℕ). given (length (descendants n w))) sum
-      ∙ ap (λ (k : List ℕ). given (length k)) (descendants-leaves (g - genus w) w fits (h .closed) (omega arith))
+  count-leaves l k fits = count-answers w g h l ∙ ap (λ (k : List ℕ). given (length k)) (descendants-at g w fits (h .closed) k l)
 
 -- up to genus 30, the words two genera on are the grandchildren
 pub count-grandchildren : (w : ℕ) → Accepted w → genus w ≤ 30 → countOf w (genus w + 2) ≡ grandchildrenOf w

@@ -1,8 +1,10 @@
 -- Words put into a lent list: one after the other, and what became of the list when all were put. Assumes nothing.
 use Prim.Native.Nat.{ℕ, zero, suc, _+_, _≤_, _<_, min}
 use mathlib.Core.Path.{_≡_, refl, ap, _∙_}
-use mathlib.Core.Bool.{true, false, not}
-use mathlib.Core.List.{List, [], _∷_, _++_, append-assoc}
+use mathlib.Core.Bool.{true, false, not, cond}
+use mathlib.Core.List.{List, [], _∷_, _++_, append-assoc, head?}
+use mathlib.Core.Option.{Option}
+use mathlib.Core.Option as Option
 use native.Mathlib.Omega.{arith}
 use native.Mathlib.Nat.{add-zero, zero-add}
 use native.Mathlib.Numerals.{add-one}
@@ -60,3 +62,13 @@ put-after (x ∷ l) p (y ∷ q) (suc n) e =
 pub put-all : (l o : List ℕ) (n : ℕ) → n ≡ min (length o) (length l)
     → putAll l (o, unwritten) ≡ (take n l ++ drop n o, record { written = n; more = not (none (drop n l)); next = getD (drop n l) 0 0 })
 put-all l o n e = rw zero-add at (put-after l [] o n e)
+
+-- the word that found no room, or that there is none
+abbrev pub without-room : Lent → Option ℕ
+without-room t = cond (t .1 .more) (Option.some (t .1 .next)) Option.none
+
+-- in a list without places it is the first word
+pub put-nowhere : (l : List ℕ) {t : Lent} → t ≡ putAll l ([], unwritten) → without-room t ≡ head? l
+unfolding putAll
+put-nowhere [] e = ap without-room e
+put-nowhere (x ∷ l) e = ap without-room (e ∙ ap (putAll l) (put-full x ([], unwritten) refl (omega arith)) ∙ put-more l _ refl)

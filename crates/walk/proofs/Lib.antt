@@ -6,4 +6,5 @@ pub mod Lending
 pub mod Measure
 pub mod Batches
 pub mod Counts
+pub mod Descendants
 pub mod Values

@@ -19,9 +19,10 @@ use Rattle.words.proofs.Elements.{multiplicity-pos, multiplicity-le-genus}
 use Rattle.words.proofs.Words.{genus-zero, closed-zero}
 use Rattle.words.proofs.Tree.{descendants-zero, count-below, count-own}
 use Rattle.words.proofs.Booleans.{by-value}
-use Rattle.words.proofs.GenusList.{earlier-asym}
+use Rattle.words.proofs.ListOrder.{earlier-asym}
+use Rattle.words.proofs.GenusList.{genus-list-mem}
 use Rattle.words.specs.Answers.{refused, given, ask, Accepted}
-use Rattle.words.proofs.Answers.{asked}
+use Rattle.words.proofs.Answers.{asked, genus-asked}
 use Rattle.windows.specs.Windows.{within, windowList}
 use Rattle.windows.proofs.Windows.{within-iff, window-mem, mem-window, window-ordered, window-whole}
 use Rattle.walk.specs.declared.Walk.{Walk}
@@ -176,11 +177,19 @@ unfolding startOf
 start-answers w fits h =
     start-in-answers w h 1 33 (within-iff 1 33 (multiplicity w) .1 (omega (arith, multiplicity-pos w fits, multiplicity-le-genus w fits, h .few)))
 
+-- it has the genus list from the word on to give
+pub start-standing : (g w : ℕ) (k l : List ℕ) → g ≤ 32 → k ++ w ∷ l ≡ genusList g → startOf w ≡ given (standing g 1 33 (w ∷ l))
+unfolding standing none
+start-standing g w k l small e =
+    let h = genus-list-mem g (subst (List·Memᴰ w) e (mem-middle k l w)) in
+    start-answers w (h .fits) record { closed = h .closed; few = le-trans (le-of-eq (h .gapped)) small }
+    ∙ ap (λ (n : ℕ). given record { genus = n; word = w; lowest = 1; highest = 33; finished = false }) (h .gapped)
+
 -- ---- the count call
 
 pub count-answers : (w g : ℕ) → Accepted w → g ≤ 32 → countOf w g ≡ given (descendantCount g w)
 unfolding countOf
-count-answers w g h small = asked refused w (ask (leb g 32) (refused 3) (given (descendantCount g w))) h ∙ rw (le-leb g 32 small)
+count-answers w g h = genus-asked w g _ h
 
 -- for word 0 it is the number of all, below a word's genus 0, and at its own 1
 pub count-all : (g : ℕ) → g ≤ 32 → countOf 0 g ≡ given (length (genusList g))

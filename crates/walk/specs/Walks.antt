@@ -3,13 +3,14 @@
 -- order, and nothing else: `windows`, `Windows`. Assumes nothing: these are definitions.
 use Prim.Native.Nat.{ℕ, min}
 use mathlib.Core.Bool.{Bool, false, cond, _&&_}
-use mathlib.Core.List.{List, [], _++_}
+use mathlib.Core.List.{List, [], _++_, head?}
+use mathlib.Core.Option.{Option}
 use lib.Dec.{leb, eqb}
 use lib.ListN.{length, take, drop, getD}
 use Rattle.words.specs.Lists.{none, onFrom}
 use Rattle.words.specs.Words.{genus, closed}
 use Rattle.words.specs.Elements.{multiplicity}
-use Rattle.words.specs.GenusList.{descendantCount}
+use Rattle.words.specs.GenusList.{descendants, descendantCount}
 use Rattle.words.specs.Answers.{Answer, refused, given, ask, askWord}
 use Rattle.windows.specs.Windows.{within, windowList}
 use Rattle.walk.specs.declared.Walk.{Walk}
@@ -89,3 +90,9 @@ batchOf w lent = ask (leb (w .genus) 32) (unmoved 3 w lent) (ask (inOrder w) (un
 -- the number of semigroups of genus g whose smallest gaps are exactly the gaps of w
 unfoldable pub countOf : ℕ → ℕ → Answer ℕ
 countOf w g = askWord refused w (ask (leb g 32) (refused 3) (given (descendantCount g w)))
+
+-- ---- the first descendant
+
+-- the first in list order of these, or none
+unfoldable pub firstDescendantOf : ℕ → ℕ → Answer (Option ℕ)
+firstDescendantOf w g = askWord refused w (ask (leb g 32) (refused 3) (given (head? (descendants g w))))

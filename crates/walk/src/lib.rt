@@ -1,23 +1,26 @@
-// The walk over the numerical semigroups of a genus with a multiplicity in a window, in list order, and the counts of a genus.
+// The walk over the numerical semigroups of a genus with a multiplicity in a window, in list order, and of a genus the number of the
+// descendants of a word and the first of them.
 ghost use Prim.Native.Nat.{_+_, _≤_, _<_};
 ghost use mathlib.Core.Path.{_≡_};
-ghost use mathlib.Core.List.{List·Memᴰ};
+ghost use mathlib.Core.List.{head?, List·Memᴰ};
 ghost use lib.ListN.{length};
 ghost use Rattle.words.specs.Lists.{onFrom};
 ghost use Rattle.words.specs.Elements.{multiplicity};
 ghost use Rattle.words.specs.Positions.{above};
-ghost use Rattle.words.specs.Answers.{answered};
+ghost use Rattle.words.specs.Answers.{answered, sought, soughtAnswered};
 ghost use Rattle.words.specs.Tree.{leaves};
 ghost use Rattle.tables.specs.Levels.{NodeWithLevels};
 ghost use Rattle.tables.specs.Branches.{branches, Offsets};
 ghost use Rattle.walk.specs.Answers.{begun};
-ghost use Rattle.walk.specs.Walks.{inOrder, ended, freshOf, freshInOf, startOf, startInOf, batchOf, countOf};
+ghost use Rattle.walk.specs.Walks.{inOrder, ended, freshOf, freshInOf, startOf, startInOf, batchOf, countOf, firstDescendantOf};
 ghost use Rattle.walk.specs.Cut.{fromMultiplicity};
 ghost use Rattle.walk.specs.Lending.{putOne, putAll};
 use tables::Node;
 use tables::NodeAnswer;
 use windows::FirstAnswer;
 use words::Element;
+use words::Found;
+use words::FoundAnswer;
 use words::LookAnswer;
 use words::NumberAnswer;
 use words::Offset;
@@ -200,6 +203,24 @@ fn resume(n: Node, word: u64, left: u64, lowest: u8, s: Emitted, out: &mut [u64]
     }
 }
 
+// The first of the words `left` levels below a node, or that there is none: the one that finds no room in a list without places.
+fn first_leaf(n: Node, left: u64) -> Found
+    requires { ⌜ NodeWithLevels left n ⌝ }
+    ensures { λ r. ⌜ sought r ≡ head? (leaves left (n .word)) ⌝ }
+{
+    let mut places = [0u64; 0];
+    let none = Emitted {
+        written: 0,
+        more: false,
+        next: 0,
+    };
+    let s = emit(n, left, none, &mut places);
+    if s.more {
+        return Found::Number(s.next);
+    }
+    Found::Nothing
+}
+
 // Question 4: is the walk finished with word 0, or unfinished on an accepted word of its genus in its window?
 fn in_order(walk: Walk) -> bool
     ensures { λ r. ⌜ r ≡ inOrder walk ⌝ }
@@ -339,6 +360,27 @@ pub fn count(word: u64, genus: u64) -> NumberAnswer
                 return NumberAnswer::Given(0);
             }
             NumberAnswer::Given(count_node(n, genus - own))
+        }
+    }
+}
+
+// The first semigroup in list order of a genus whose smallest gaps are exactly the word's gaps, or that there is none: refused where the word
+// is, and above genus 32.
+pub fn first_descendant(word: u64, genus: u64) -> FoundAnswer
+    ensures { λ r. ⌜ soughtAnswered r ≡ firstDescendantOf word genus ⌝ }
+{
+    let answer = tables::node_of(word);
+    match answer {
+        NodeAnswer::Refused(r) => FoundAnswer::Refused(r),
+        NodeAnswer::Given(n) => {
+            if 32 < genus {
+                return FoundAnswer::Refused(Refusal::GenusTooLarge);
+            }
+            let own = words::genus_of(word);
+            if genus < own {
+                return FoundAnswer::Given(Found::Nothing);
+            }
+            FoundAnswer::Given(first_leaf(n, genus - own))
         }
     }
 }
