@@ -158,6 +158,25 @@ static void counts(void) {
   CHECK(number_is(atlas_elementary(7, 33), 3, 0));
 }
 
+/* The descendants of 11 of genus 4 are cut out of the genus list: first and number, then a walk from the first on. */
+static void descendants(void) {
+  CHECK(found_is(atlas_first_descendant(11, 4), 0, true, 27));
+  CHECK(number_is(atlas_count(11, 4), 0, 2));
+  uint64_t out[2] = {7, 7};
+  atlas_moved moved = atlas_batch(atlas_start(27).walk, out, 2);
+  CHECK(moved.refused == 0 && moved.count == 2 && !moved.finished && walk_is(moved.walk, 4, 85, 1, 33, 0));
+  CHECK(memcmp(out, (uint64_t[]){27, 75}, sizeof out) == 0);
+  CHECK(found_is(atlas_first_descendant(19, 4), 0, false, 0));
+  CHECK(found_is(atlas_first_descendant(91, 5), 0, true, 91));
+  CHECK(found_is(atlas_first_descendant(91, 4), 0, false, 0));
+  CHECK(found_is(atlas_first_descendant(0, 0), 0, true, 0));
+  CHECK(found_is(atlas_first_descendant(0, 32), 0, true, 4294967295));
+  CHECK(found_is(atlas_first_descendant(of_genus_32, 32), 0, true, of_genus_32));
+  CHECK(found_is(atlas_first_descendant(too_many, 33), 1, false, 0));
+  CHECK(found_is(atlas_first_descendant(not_closed, 33), 2, false, 0));
+  CHECK(found_is(atlas_first_descendant(0, 33), 3, false, 0));
+}
+
 static void generators(void) {
   uint8_t out[5] = {9, 9, 9, 9, 9};
   CHECK(number_is(atlas_generators(too_many, out, 5), 1, 0));
@@ -308,6 +327,7 @@ int main(void) {
   window_batches();
   refused_batches();
   counts();
+  descendants();
   generators();
   generators_in_stages();
   short_history();

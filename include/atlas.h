@@ -131,6 +131,11 @@ atlas_moved atlas_batch(atlas_walk walk, uint64_t *out, size_t length);
 /* The number of semigroups of a genus whose smallest gaps are exactly the word's; of word 0, the number of all. Refusals 1, 2, 3. */
 atlas_number atlas_count(uint64_t word, uint64_t genus);
 
+/* The first semigroup of a genus in list order whose smallest gaps are exactly the word's; `found` is false where there is none. In the list
+   of a genus they all stand side by side, as many as atlas_count says: a walk that atlas_start begins on this word writes exactly these to a
+   list of that length. Refusals 1, 2, 3. */
+atlas_found atlas_first_descendant(uint64_t word, uint64_t genus);
+
 /* The minimal generators of an accepted word are at most as many as its multiplicity, which is at most 33: a list of so many places always
    holds them. */
 #define ATLAS_MOST_GENERATORS 33

@@ -6,7 +6,7 @@ ghost use mathlib.Core.List.{[]};
 ghost use Rattle.words.specs.Answers.{answered, soughtAnswered, looked, lookOf, numberOf};
 ghost use Rattle.tables.specs.Answers.{tableOf, childOf, grandchildrenOf};
 ghost use Rattle.walk.specs.Answers.{begun, reported};
-ghost use Rattle.walk.specs.Walks.{freshOf, freshInOf, startOf, startInOf, countOf};
+ghost use Rattle.walk.specs.Walks.{freshOf, freshInOf, startOf, startInOf, countOf, firstDescendantOf};
 ghost use Rattle.generators.specs.Generators.{generatorsOf, wordFromOf};
 ghost use Rattle.elementary.specs.Answers.{elementaryOf};
 ghost use Rattle.kunz.specs.Coordinates.{coordinatesOf, wordFromCoordinatesOf};
@@ -391,6 +391,14 @@ pub extern "C" fn atlas_count(word: u64, genus: u64) -> AtlasNumber
     ensures { λ r. ⌜ r ≡ numberIn (countOf word genus) ⌝ }
 {
     number_of(walk::count(word, genus))
+}
+
+// The first semigroup of a genus whose smallest gaps are exactly the word's gaps, or that there is none. Questions 1, 2, 3.
+#[no_mangle]
+pub extern "C" fn atlas_first_descendant(word: u64, genus: u64) -> AtlasFound
+    ensures { λ r. ⌜ r ≡ foundIn (firstDescendantOf word genus) ⌝ }
+{
+    found_of(walk::first_descendant(word, genus))
 }
 
 // The number of elementary semigroups of a genus with a largest gap. Question 3.

@@ -1,5 +1,5 @@
-// Runs further cases of the papers on gap words, seed tables, children, windows of multiplicities and searches, and prints what the calls
-// answer. What it prints is held to the stored file: the tables of the descendants of example 1.4 worked by hand by lemma 3.1, the rest
+// Runs further cases of the papers on gap words, seed tables, children, windows of multiplicities, searches and descendants, and prints what
+// the calls answer. What it prints is held to the stored file: the tables of the descendants of example 1.4 worked by hand by lemma 3.1, the rest
 // computed apart from the plain definitions. The marked cases are proved: proofs/Marked.antt.
 use libc::STDOUT_FILENO;
 use walk::BatchAnswer;
@@ -259,14 +259,8 @@ fn windows() {
     show_start(13, 4, 3);
 }
 
-// The first word of a genus with a largest gap and a multiplicity.
-fn show_find(genus: u64, largest_gap: i8, multiplicity: u8) {
-    text(b"find");
-    field(genus);
-    signed_field(wide(largest_gap));
-    field(multiplicity as u64);
-    text(b":");
-    let a = search::find(genus, largest_gap, multiplicity);
+// What a call looked for, that there is none, or the number of a refusal.
+fn found(a: FoundAnswer) {
     match a {
         FoundAnswer::Refused(r) => refusal(r),
         FoundAnswer::Given(f) => match f {
@@ -274,6 +268,16 @@ fn show_find(genus: u64, largest_gap: i8, multiplicity: u8) {
             Found::Nothing => text(b" none"),
         },
     }
+}
+
+// The first word of a genus with a largest gap and a multiplicity.
+fn show_find(genus: u64, largest_gap: i8, multiplicity: u8) {
+    text(b"find");
+    field(genus);
+    signed_field(wide(largest_gap));
+    field(multiplicity as u64);
+    text(b":");
+    found(search::find(genus, largest_gap, multiplicity));
     end();
 }
 
@@ -327,6 +331,41 @@ fn grandchildren() {
     show_grandchildren(18446744073709551615);
 }
 
+// How many descendants of a genus a word has, and the first of them.
+fn show_descendants(word: u64, genus: u64) {
+    text(b"descendants of");
+    field(word);
+    text(b" of genus");
+    field(genus);
+    text(b":");
+    answer(walk::count(word, genus));
+    text(b" from");
+    found(walk::first_descendant(word, genus));
+    end();
+}
+
+// Descendants of a word's own genus, of larger ones and of a smaller one, of words that have many or none, and of refused words and genera.
+fn descendants() {
+    show_descendants(0, 0);
+    show_descendants(11, 4);
+    show_descendants(19, 4);
+    show_descendants(5, 3);
+    show_descendants(91, 5);
+    show_descendants(91, 4);
+    show_descendants(255, 20);
+    show_descendants(639, 20);
+    show_descendants(21845, 20);
+    show_descendants(1261567, 31);
+    show_descendants(1261567, 32);
+    show_descendants(1431655765, 32);
+    show_descendants(4294967295, 32);
+    show_descendants(6148914691236517205, 32);
+    show_descendants(13, 33);
+    show_descendants(8589934591, 20);
+    show_descendants(5, 33);
+    show_descendants(0, 18446744073709551615);
+}
+
 fn main() {
     example_1_4();
     example_1_5();
@@ -337,4 +376,5 @@ fn main() {
     windows();
     searches();
     grandchildren();
+    descendants();
 }
