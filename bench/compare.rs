@@ -85,6 +85,7 @@ extern "C" {
     fn atlas_start_in(word: u64, lowest: u8, highest: u8) -> Begun;
     fn atlas_batch(walk: Walk, out: *mut u64, length: usize) -> Moved;
     fn atlas_count(word: u64, genus: u64) -> Number;
+    fn atlas_first_descendant(word: u64, genus: u64) -> Found;
     fn atlas_generators(word: u64, out: *mut u8, length: usize) -> Number;
     fn atlas_word_from(list: *const u8, length: usize) -> Number;
     fn atlas_elementary(frobenius: u64, genus: u64) -> Number;
@@ -419,14 +420,26 @@ fn firsts(list: &[u64]) -> Firsts {
     firsts
 }
 
-/// What is found in a list by its first words.
-fn found(firsts: &Firsts, largest_gap: i8, multiplicity: u8) -> Found {
-    let word = firsts.get(&(largest_gap as i64, multiplicity as u64)).copied();
+/// A word that was looked for, or that there is none.
+fn found(word: Option<u64>) -> Found {
     Found {
         refused: 0,
         found: word.is_some(),
         word: word.unwrap_or(0),
     }
+}
+
+fn not_sought(refused: u64) -> Found {
+    Found {
+        refused,
+        found: false,
+        word: 0,
+    }
+}
+
+/// What is found in a list by its first words.
+fn found_by(firsts: &Firsts, largest_gap: i8, multiplicity: u8) -> Found {
+    found(firsts.get(&(largest_gap as i64, multiplicity as u64)).copied())
 }
 
 // ---- random numbers
@@ -848,6 +861,77 @@ fn counts(n: u64, words: &Words, r: &mut Random) -> Kind {
     kind
 }
 
+/// The list of each genus up to 14, cut by each word of genus 0 to 9 up to its own: the descendants stand side by side in it, none of the others
+/// between; the first of them and their number are told, and a walk from the first on writes just these, by one list or by two. In the order
+/// of the words of a genus they are the whole list.
+fn stretches(words: &Words, r: &mut Random) -> Kind {
+    let mut kind = Kind::new("descendants cut out of genus lists");
+    for (h, ancestors) in words.lists.iter().enumerate().take(10) {
+        for g in h..=14 {
+            let list = &words.lists[g];
+            let mut joined = Vec::new();
+            for &w in ancestors {
+                let descendants: Vec<u64> = list.iter().copied().filter(|&v| begins(w, v)).collect();
+                let place = list.iter().position(|&v| begins(w, v)).unwrap_or(0);
+                assert!(list[place..].starts_with(&descendants), "the descendants of {w} of genus {g} stand side by side");
+                let asked = || format!("{w} {g}");
+                let first = unsafe { atlas_first_descendant(w, g as u64) };
+                kind.same(first, found(descendants.first().copied()), &asked);
+                kind.same(unsafe { atlas_count(w, g as u64) }, given(descendants.len() as u64), &asked);
+                if first.found {
+                    let mut walk = unsafe { atlas_start(first.word) }.walk;
+                    let mut out = vec![0; descendants.len()];
+                    let cut = r.below(out.len() as u64 + 1) as usize;
+                    for part in [0..cut, cut..out.len()] {
+                        let moved = unsafe { atlas_batch(walk, out[part.clone()].as_mut_ptr(), part.len()) };
+                        kind.same((moved.refused, moved.count), (0, part.len()), &asked);
+                        walk = moved.walk;
+                    }
+                    kind.same(&out, &descendants, &asked);
+                    joined.extend(out);
+                }
+            }
+            kind.same(&joined, list, &|| format!("all of genus {h} {g}"));
+        }
+    }
+    kind
+}
+
+/// First descendants of random words: by the list of the genus where it is at hand, else by the tree; a word, none and refusals of each
+/// number are met.
+fn first_descendants(n: u64, words: &Words, r: &mut Random) -> Kind {
+    let mut kind = Kind::new("first descendant");
+    let mut met = [0u64; 5];
+    for _ in 0..n {
+        let w = words.any(r);
+        let own = gaps(w).len() as u64;
+        let g = match r.below(8) {
+            0 => [33, 1 << 32, 1 << 63, u64::MAX][r.below(4) as usize],
+            1 => r.below(40),
+            2 => r.next(),
+            3 => 32,
+            _ => own + r.below(8),
+        };
+        let plain = if let Some(q) = word_refused(w) {
+            not_sought(q)
+        } else if g > 32 {
+            not_sought(3)
+        } else if let Some(list) = words.lists.get(g as usize) {
+            found(list.iter().copied().find(|&v| begins(w, v)))
+        } else if g < own {
+            found(None)
+        } else {
+            let mut list = Vec::new();
+            below(w, g - own, 0, 255, 1, &mut list);
+            found(list.first().copied())
+        };
+        met[if plain.found { 4 } else { plain.refused as usize }] += 1;
+        kind.same(unsafe { atlas_first_descendant(w, g) }, plain, &|| format!("{w} {g}"));
+    }
+    assert!(met.iter().all(|&q| q > n / 100), "each answer is met: {met:?}");
+    kind
+}
+
 /// A call that lists bytes of a word into a lent list, against what is to be listed: questions 1, 2 and 6.
 fn listed(
     mut kind: Kind,
@@ -1230,7 +1314,7 @@ fn small_finds(words: &Words) -> Kind {
         let (largest_gaps, multiplicities) = if genus <= 9 { (-128..=127, 0..=255) } else { (-2..=54, 0..=30) };
         for f in largest_gaps {
             for m in multiplicities.clone() {
-                kind.same(unsafe { atlas_find(genus, f, m) }, found(&firsts, f, m), &|| format!("{genus} {f} {m}"));
+                kind.same(unsafe { atlas_find(genus, f, m) }, found_by(&firsts, f, m), &|| format!("{genus} {f} {m}"));
             }
         }
     }
@@ -1252,13 +1336,9 @@ fn finds(n: u64, r: &mut Random) -> Kind {
             _ => (near - 1 + r.below(near + 2)) as i8,
         };
         let plain = if genus > 32 {
-            Found {
-                refused: 3,
-                found: false,
-                word: 0,
-            }
+            not_sought(3)
         } else {
-            found(windows.entry((genus, m)).or_insert_with(|| firsts(&walked(genus, m, m))), f, m)
+            found_by(windows.entry((genus, m)).or_insert_with(|| firsts(&walked(genus, m, m))), f, m)
         };
         met[plain.refused as usize + plain.found as usize] += 1;
         kind.same(unsafe { atlas_find(genus, f, m) }, plain, &|| format!("{genus} {f} {m}"));
@@ -1324,6 +1404,8 @@ fn main() {
         windows(&words, &mut r),
         batches(200_000, &words, &mut r),
         counts(10_000, &words, &mut r),
+        stretches(&words, &mut r),
+        first_descendants(50_000, &words, &mut r),
         listed(Kind::new("generators"), atlas_generators, minimal_generators, 100_000, &words, &mut r),
         words_from(150_000, &words, &mut r),
         joins(50_000, &words, &mut r),

@@ -1,7 +1,7 @@
 /* Speed of the atlas as ratios: the count and the whole walk of a genus by batches of 4,096 words, ours against the paper's recursive
-   algorithm in C and against plain Rust, the same work on the same machine in one run; then calls on every word of a genus, and the walk
-   of a window of it and searches in it, against the walk of it; and changes of lists of generators against calls for their words. Each time
-   is the least of several runs. */
+   algorithm in C and against plain Rust, the same work on the same machine in one run; then calls on every word of a genus, the walk of it cut
+   by ancestors, and the walk of a window of it and searches in it, against the walk of it; and changes of lists of generators against calls
+   for their words. Each time is the least of several runs. */
 #include <inttypes.h>
 #include <stdio.h>
 #include <stdlib.h>
@@ -55,6 +55,27 @@ static uint64_t our_window(unsigned genus, uint64_t *out, size_t length, uint64_
   return walked(atlas_fresh_in(genus, 8, 8).walk, out, length, mixed);
 }
 
+/* The walk of a genus cut by its ancestors of genus 12, each by itself: how many descendants there are, which is the first, and a walk from
+   that on. */
+static uint64_t by_ancestors(unsigned genus, uint64_t *out, size_t length, uint64_t *mixed) {
+  uint64_t total = 0, mix = 0;
+  for (atlas_walk ancestors = atlas_fresh(12).walk; !ancestors.finished;) {
+    uint64_t ancestor;
+    ancestors = atlas_batch(ancestors, &ancestor, 1).walk;
+    uint64_t left = atlas_count(ancestor, genus).value;
+    atlas_walk walk = atlas_start(atlas_first_descendant(ancestor, genus).word).walk;
+    while (left > 0) {
+      atlas_moved moved = atlas_batch(walk, out, left < length ? left : length);
+      for (size_t i = 0; i < moved.count; i++) mix = mix * 31 + out[i];
+      total += moved.count;
+      left -= moved.count;
+      walk = moved.walk;
+    }
+  }
+  *mixed = mix;
+  return total;
+}
+
 /* The walk of a genus with calls on each word of it. */
 typedef uint64_t call(uint64_t word);
 
@@ -79,6 +100,8 @@ static uint64_t grandchildren(uint64_t word) { return atlas_grandchildren(word).
 /* The same number for a word of genus 24 by the count, which makes the children. */
 static uint64_t counted_on(uint64_t word) { return atlas_count(word, 26).value; }
 
+static uint64_t first_on(uint64_t word) { return atlas_first_descendant(word, 32).found; }
+
 static uint64_t called(unsigned genus, uint64_t *out, size_t length, uint64_t *mixed, call *f) {
   uint64_t total = 0, mix = 0;
   atlas_walk walk = atlas_fresh(genus).walk;
@@ -98,6 +121,7 @@ static uint64_t walk_coordinates(unsigned g, uint64_t *out, size_t n, uint64_t *
 static uint64_t walk_tabled(unsigned g, uint64_t *out, size_t n, uint64_t *mixed) { return called(g, out, n, mixed, tabled); }
 static uint64_t walk_grandchildren(unsigned g, uint64_t *out, size_t n, uint64_t *mixed) { return called(g, out, n, mixed, grandchildren); }
 static uint64_t walk_counted_on(unsigned g, uint64_t *out, size_t n, uint64_t *mixed) { return called(g, out, n, mixed, counted_on); }
+static uint64_t walk_first_on(unsigned g, uint64_t *out, size_t n, uint64_t *mixed) { return called(g, out, n, mixed, first_on); }
 static uint64_t walk_back(unsigned g, uint64_t *out, size_t n, uint64_t *mixed) { return called(g, out, n, mixed, coordinates_back); }
 
 /* The searches with largest gaps and multiplicities from 0 up to these. */
@@ -243,6 +267,14 @@ int main(void) {
     fprintf(stderr, "results differ: grandchildren of genus 24\n");
     exit(1);
   }
+  call_row("first descendant of genus 32", 24, walk_first_on, walk);
+  uint64_t cut_total, cut_mixed;
+  double whole = time_of(our_walk, 28, LENGTH, &total, &mixed), cut = time_of(by_ancestors, 28, LENGTH, &cut_total, &cut_mixed);
+  if (cut_total != total || cut_mixed != mixed) {
+    fprintf(stderr, "results differ: genus 28 cut by ancestors\n");
+    exit(1);
+  }
+  printf("genus 28 cut by the words of genus 12: %.2f times the walk\n", cut / whole);
   list_generators(16);
   uint64_t changes, calls, mixed_calls;
   double changing = time_of(by_changes, 16, LENGTH, &changes, &mixed), calling = time_of(by_calls, 16, LENGTH, &calls, &mixed_calls);
