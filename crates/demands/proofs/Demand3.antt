@@ -1,5 +1,5 @@
--- Demand 3: a walk that has an end of its window still to give writes that end, call by call; and after each call it has the window
--- behind its first N words still to give. Assumes nothing.
+-- Demand 3: a walk that has an end of its window still to give writes that end, call by call; and after each call it has what is behind
+-- the first N words of that end still to give. Assumes nothing.
 use Prim.Native.Nat.{ℕ, _+_, _-_, _≤_, min}
 use mathlib.Core.Path.{_≡_, refl, sym, _∙_, ap, ap₂, subst, subst₂}
 use mathlib.Core.Logic.{_↔_}
@@ -8,7 +8,7 @@ use mathlib.Core.List.{List, [], _∷_, _++_, map, append-nil, append-assoc, nil
 use native.Mathlib.Omega.{arith}
 use lib.ListN.{length, take, drop, length-drop}
 use lib.Seq.{take-at, drop-at, take-add, drop-drop, length-front, length-take-le}
-use Rattle.words.specs.Lists.{none, joined}
+use Rattle.words.specs.Lists.{none, joined, sumOver}
 use Rattle.words.specs.GenusList.{genusList}
 use Rattle.words.specs.Answers.{Answer, given}
 use Rattle.words.proofs.Lists.{none-iff, end-drop, joined-append}
@@ -29,6 +29,12 @@ lent-each : (w : Walk) (lents : List (List ℕ)) → map (λ c. c .lent) (batche
 unfolding batches
 lent-each w [] = refl
 lent-each w (lent ∷ lents) = ap (λ (l : List (List ℕ)). lent ∷ l) (lent-each (call atlas w lent .ending .walk) lents)
+
+-- the lengths of the lent lists, summed
+pub lengths-lent : (w : Walk) (lents : List (List ℕ)) → lengths (batches atlas w lents) ≡ sumOver length lents
+unfolding batches lengths sumOver
+lengths-lent w [] = refl
+lengths-lent w (lent ∷ lents) = ap (λ (n : ℕ). length lent + n) (lengths-lent _ lents)
 
 -- ---- one batch, of a walk that has r still to give
 

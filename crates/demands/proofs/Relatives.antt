@@ -28,18 +28,14 @@ use Rattle.walk.proofs.Walks.{batch-standing, start-standing, count-answers}
 use Rattle.walk.proofs.Descendants.{first-answers, first-iff}
 use Rattle.demands.specs.Demand3.{atlas, batches, wrote, lengths, N}
 use Rattle.demands.specs.Relatives.{Ancestor, CutByWord, FromFirst, writtenFrom, writtenByFirst, job, CutByGenus, Relatives}
-use Rattle.demands.proofs.Demand3.{demanded, batches-wrote}
-
--- the lengths of the lent lists, summed
-lengths-lent : (w : Walk) (lents : List (List ℕ)) → lengths (batches atlas w lents) ≡ sumOver length lents
-unfolding batches lengths sumOver
-lengths-lent w [] = refl
-lengths-lent w (lent ∷ lents) = ap (λ (n : ℕ). length lent + n) (lengths-lent _ lents)
+use Rattle.demands.proofs.Demand3.{lengths-lent, demanded, batches-wrote}
 
 module _ (w g : ℕ) (h : Ancestor w g) where
+  -- the descendants
   abbrev D : List ℕ
   D = descendants g w
 
+  -- the words after them
   abbrev A : List ℕ
   A = wordsAfter g w
 
