@@ -154,30 +154,30 @@ module _ (g lo hi : ℕ) (L : List ℕ) where
 
   -- L is an end of the window
   module _ (k : List ℕ) (e : k ++ L ≡ windowList g lo hi) (small : g ≤ 32) where
-    abbrev begun : Walk
-    begun = standing g lo hi L
+    abbrev started : Walk
+    started = standing g lo hi L
 
     none-yet : WroteFirst []
     unfolding joined
     none-yet = ap (λ (m : ℕ). take m L) (sym start)
 
-    from-first : (lents : List (List ℕ)) → batches atlas begun lents ≡ served g lo hi (drop (N L []) L) lents
-    from-first lents = batches-served g lo hi small k L e lents ∙ ap (λ (m : ℕ). served g lo hi (drop m L) lents) (sym start)
+    served-from-start : (lents : List (List ℕ)) → batches atlas started lents ≡ served g lo hi (drop (N L []) L) lents
+    served-from-start lents = batches-served g lo hi small k L e lents ∙ ap (λ (m : ℕ). served g lo hi (drop m L) lents) (sym start)
 
     -- the demand for the walk that has L still to give
-    pub demanded : (answer : Answer Walk) → answer ≡ given begun → (lents : List (List ℕ)) → Demanded atlas answer L (length L) lents
+    pub demanded : (answer : Answer Walk) → answer ≡ given started → (lents : List (List ℕ)) → Demanded atlas answer L (length L) lents
     demanded answer answers lents = record {
-      fresh = begun;
+      fresh = started;
       fresh-answers = answers;
       start = start;
-      lent-each = lent-each begun lents;
-      each = λ before after c e. after-each [] none-yet lents before after c (sym (from-first lents) ∙ e);
+      lent-each = lent-each started lents;
+      each = λ before after c e. after-each [] none-yet lents before after c (sym (served-from-start lents) ∙ e);
       how-many = refl;
     }
 
     -- its batches write the first N
-    pub batches-wrote : (lents : List (List ℕ)) → WroteFirst (batches atlas begun lents)
-    batches-wrote lents = subst WroteFirst (sym (from-first lents)) (all-wrote [] none-yet lents)
+    pub batches-wrote : (lents : List (List ℕ)) → WroteFirst (batches atlas started lents)
+    batches-wrote lents = subst WroteFirst (sym (served-from-start lents)) (all-wrote [] none-yet lents)
 
 -- in a window, from the fresh call with one
 demanded-in-window : (g lo hi : ℕ) → g ≤ 32 → (lents : List (List ℕ)) → DemandedInWindow atlas g lo hi lents

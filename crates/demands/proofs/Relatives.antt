@@ -19,15 +19,15 @@ use Rattle.words.proofs.Heads.{head-none, head-some, first-of-all}
 use Rattle.words.proofs.GenusList.{genus-list-mem}
 use Rattle.words.proofs.Tree.{descendants-own}
 use Rattle.words.proofs.GapLists.{descendants-all}
-use Rattle.words.proofs.Relatives.{stretch, not-before, not-after, before-first, descendants-from-place, by-ancestors, place-counts}
+use Rattle.words.proofs.Relatives.{stretch, before-no-descendant, after-no-descendant, before-first, descendants-from-place, by-ancestors, place-counts}
 use Rattle.windows.specs.Windows.{windowList}
 use Rattle.windows.proofs.Windows.{window-whole}
 use Rattle.walk.specs.declared.Walk.{Walk}
 use Rattle.walk.specs.Walks.{standing, Ending, startOf, batchOf, countOf, firstDescendantOf}
 use Rattle.walk.proofs.Walks.{batch-standing, start-standing, count-answers}
-use Rattle.walk.proofs.Descendants.{first-answers, first-iff}
+use Rattle.walk.proofs.Descendants.{descendant-answers, descendant-answer-iff}
 use Rattle.demands.specs.Demand3.{atlas, batches, wrote, lengths, N}
-use Rattle.demands.specs.Relatives.{Ancestor, CutByWord, FromFirst, writtenFrom, writtenByFirst, job, CutByGenus, Relatives}
+use Rattle.demands.specs.Relatives.{Ancestor, CutByWord, FromFirst, writtenFrom, writtenByFirst, share, CutByGenus, Relatives}
 use Rattle.demands.proofs.Demand3.{lengths-lent, demanded, batches-wrote}
 
 module _ (w g : ℕ) (h : Ancestor w g) where
@@ -55,8 +55,8 @@ module _ (w g : ℕ) (h : Ancestor w g) where
     parts = stretch g w (h .own-le);
     middle = all-descendants;
     own = λ e. ap (λ (n : ℕ). descendants n w) e ∙ descendants-own w (h .fits) (h .accepted .closed);
-    not-before = not-before g w;
-    not-after = not-after g w;
+    before-no-descendant = before-no-descendant g w;
+    after-no-descendant = after-no-descendant g w;
     number = descendantCount g w;
     count-answers = count-is;
     how-many = refl;
@@ -72,14 +72,14 @@ module _ (w g : ℕ) (h : Ancestor w g) where
   no-descendant : (firstDescendantOf w g ≡ given none) ↔ (countOf w g ≡ given 0)
   unfolding descendantCount
   no-descendant =
-      let first = first-iff w g (h .accepted) (h .small) none in (
+      let first = descendant-answer-iff w g (h .accepted) (h .small) none in (
         λ e. count-is ∙ ap (λ (l : List ℕ). given (length l)) (head-none D (first .0 e)),
         λ e. let zero : length D ≡ 0 = cc count-is in first .1 (ap head? (no-length D zero)),
       )
 
   first-descendant : (v : ℕ) → (firstDescendantOf w g ≡ given (some v)) ↔ FirstInOrder (Extends (g - genus w) w) v
   first-descendant v =
-      let first = first-iff w g (h .accepted) (h .small) (some v) in
+      let first = descendant-answer-iff w g (h .accepted) (h .small) (some v) in
       let all = first-of-all D all-descendants v in
       (λ e. all .0 (first .0 e), λ f. first .1 (all .1 f))
 
@@ -120,12 +120,12 @@ module _ (w g : ℕ) (h : Ancestor w g) where
       in-one-list = in-one-list;
     }
 
-  -- ---- the job
+  -- ---- the share of w
 
-  -- with lists that are together as long as the count a job writes the descendants
-  job-writes : (lents : List (List ℕ)) → sumOver length lents ≡ descendantCount g w → job g w lents ≡ D
+  -- with lists that are together as long as the count it is the descendants
+  share-is : (lents : List (List ℕ)) → sumOver length lents ≡ descendantCount g w → share g w lents ≡ D
   unfolding descendantCount writtenByFirst writtenFrom
-  job-writes lents e = ap (λ (a : Answer (Option ℕ)). writtenByFirst a lents) (first-answers w g (h .accepted) (h .small)) ∙ by-first D refl
+  share-is lents e = ap (λ (a : Answer (Option ℕ)). writtenByFirst a lents) (descendant-answers w g (h .accepted) (h .small)) ∙ by-first D refl
     where
       by-first : (k : List ℕ) → D ≡ k → writtenByFirst (given (head? k)) lents ≡ D
       by-first [] split = sym split
@@ -147,11 +147,11 @@ ancestor h g low small m =
 cut-by-genus : (h g : ℕ) → h ≤ g → g ≤ 32 → CutByGenus h g
 cut-by-genus h g low small = record {
   stretches = by-ancestors g h low small;
-  jobs = λ lents lengths-are.
-      joined-cong (λ w. job g w (lents w)) (descendants g) (genusList h) (λ w m.
+  shares = λ lents lengths-are.
+      joined-cong (λ w. share g w (lents w)) (descendants g) (genusList h) (λ w m.
       let a = ancestor h g low small m in
       let enough : sumOver length (lents w) ≡ descendantCount g w = let answers = lengths-are w m in let count = count-is w g a in cc in
-      job-writes w g a (lents w) enough)
+      share-is w g a (lents w) enough)
       ∙ by-ancestors g h low small;
 }
 
@@ -161,7 +161,7 @@ relatives = record {
   no-descendant = no-descendant;
   first-descendant = first-descendant;
   from-first = λ w g h v e.
-      let (l, split) = head-some (descendants g w) (first-iff w g (h .accepted) (h .small) (some v) .0 e) in
+      let (l, split) = head-some (descendants g w) (descendant-answer-iff w g (h .accepted) (h .small) (some v) .0 e) in
       from-first w g h v l split;
   by-genus = cut-by-genus;
 }

@@ -33,8 +33,8 @@ pub record CutByWord (w g : ℕ) : Type 0 where
   -- at the genus of w, w itself
   pub own : g ≡ genus w → descendants g w ≡ w ∷ []
   -- no word of the first list or the last is a descendant
-  pub not-before : (v : ℕ) → List·Memᴰ v (wordsBefore g w) → ¬ List·Memᴰ v (descendants g w)
-  pub not-after : (v : ℕ) → List·Memᴰ v (wordsAfter g w) → ¬ List·Memᴰ v (descendants g w)
+  pub before-no-descendant : (v : ℕ) → List·Memᴰ v (wordsBefore g w) → ¬ List·Memᴰ v (descendants g w)
+  pub after-no-descendant : (v : ℕ) → List·Memᴰ v (wordsAfter g w) → ¬ List·Memᴰ v (descendants g w)
   -- how many they are is the count call's number
   pub number : ℕ
   pub count-answers : countOf w g ≡ given number
@@ -75,17 +75,17 @@ writtenByFirst (refused n) lents = []
 writtenByFirst (given none) lents = []
 writtenByFirst (given (some v)) lents = writtenFrom (startOf v) lents
 
--- a job: the words of genus g that are written for the ancestor w
-abbrev pub job : ℕ → ℕ → List (List ℕ) → List ℕ
-job g w lents = writtenByFirst (firstDescendantOf w g) lents
+-- the share of the ancestor w: the words of genus g that are written for it
+abbrev pub share : ℕ → ℕ → List (List ℕ) → List ℕ
+share g w lents = writtenByFirst (firstDescendantOf w g) lents
 
 -- the genus h of the ancestors is not above g
 pub record CutByGenus (h g : ℕ) : Type 0 where
   -- the descendants of all words of genus h, in the order of these, are the genus list: none is missing, and none is there twice
   pub stretches : joined (descendants g) (genusList h) ≡ genusList g
-  -- so are the words of their jobs, each with lists that are together as long as the count
-  pub jobs : (lents : ℕ → List (List ℕ)) → ((w : ℕ) → List·Memᴰ w (genusList h) → countOf w g ≡ given (sumOver length (lents w)))
-      → joined (λ w. job g w (lents w)) (genusList h) ≡ genusList g
+  -- so are their shares, each with lists that are together as long as the count
+  pub shares : (lents : ℕ → List (List ℕ)) → ((w : ℕ) → List·Memᴰ w (genusList h) → countOf w g ≡ given (sumOver length (lents w)))
+      → joined (λ w. share g w (lents w)) (genusList h) ≡ genusList g
 
 -- ---- the claim
 

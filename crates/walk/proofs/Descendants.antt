@@ -15,23 +15,23 @@ use Rattle.words.proofs.Leaves.{descendants-at}
 use Rattle.walk.specs.Walks.{firstDescendantOf}
 
 module _ (w g : ℕ) (h : Accepted w) where
-  pub first-refused : 32 < g → firstDescendantOf w g ≡ refused 3
+  pub descendant-refused : 32 < g → firstDescendantOf w g ≡ refused 3
   unfolding firstDescendantOf
-  first-refused = genus-refused w g _ h
+  descendant-refused = genus-refused w g _ h
 
   -- up to genus 32, the first of the descendants
-  pub first-answers : g ≤ 32 → firstDescendantOf w g ≡ given (head? (descendants g w))
+  pub descendant-answers : g ≤ 32 → firstDescendantOf w g ≡ given (head? (descendants g w))
   unfolding firstDescendantOf
-  first-answers = genus-asked w g _ h
+  descendant-answers = genus-asked w g _ h
 
   -- so that the answer and the first of them tell each other
-  pub first-iff : g ≤ 32 → (o : Option ℕ) → (firstDescendantOf w g ≡ given o) ↔ (head? (descendants g w) ≡ o)
-  first-iff l o = (λ e. cc (first-answers l), λ e. first-answers l ∙ ap given e)
+  pub descendant-answer-iff : g ≤ 32 → (o : Option ℕ) → (firstDescendantOf w g ≡ given o) ↔ (head? (descendants g w) ≡ o)
+  descendant-answer-iff l o = (λ e. cc (descendant-answers l), λ e. descendant-answers l ∙ ap given e)
 
   -- below the genus of the word there is none
-  pub first-below : g < genus w → firstDescendantOf w g ≡ given none
-  first-below l = first-answers (omega (arith, h .few)) ∙ ap (λ (k : List ℕ). given (head? k)) (descendants-below g w l)
+  pub descendant-below : g < genus w → firstDescendantOf w g ≡ given none
+  descendant-below l = descendant-answers (omega (arith, h .few)) ∙ ap (λ (k : List ℕ). given (head? k)) (descendants-below g w l)
 
   -- from it on, the first of the words below it in the tree
-  pub first-leaves : g ≤ 32 → genus w ≤ g → w < 2 ^ 64 → firstDescendantOf w g ≡ given (head? (leaves (g - genus w) w))
-  first-leaves l k fits = first-answers l ∙ ap (λ (k : List ℕ). given (head? k)) (descendants-at g w fits (h .closed) k l)
+  pub descendant-leaves : g ≤ 32 → genus w ≤ g → w < 2 ^ 64 → firstDescendantOf w g ≡ given (head? (leaves (g - genus w) w))
+  descendant-leaves l k fits = descendant-answers l ∙ ap (λ (k : List ℕ). given (head? k)) (descendants-at g w fits (h .closed) k l)

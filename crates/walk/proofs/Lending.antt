@@ -3,8 +3,7 @@ use Prim.Native.Nat.{ℕ, zero, suc, _+_, _≤_, _<_, min}
 use mathlib.Core.Path.{_≡_, refl, ap, _∙_}
 use mathlib.Core.Bool.{true, false, not, cond}
 use mathlib.Core.List.{List, [], _∷_, _++_, append-assoc, head?}
-use mathlib.Core.Option.{Option}
-use mathlib.Core.Option as Option
+use mathlib.Core.Option as O
 use native.Mathlib.Omega.{arith}
 use native.Mathlib.Nat.{add-zero, zero-add}
 use native.Mathlib.Numerals.{add-one}
@@ -64,8 +63,8 @@ pub put-all : (l o : List ℕ) (n : ℕ) → n ≡ min (length o) (length l)
 put-all l o n e = rw zero-add at (put-after l [] o n e)
 
 -- the word that found no room, or that there is none
-abbrev pub without-room : Lent → Option ℕ
-without-room t = cond (t .1 .more) (Option.some (t .1 .next)) Option.none
+abbrev pub without-room : Lent → O.Option ℕ
+without-room t = cond (t .1 .more) (O.some (t .1 .next)) O.none
 
 -- in a list without places it is the first word
 pub put-nowhere : (l : List ℕ) {t : Lent} → t ≡ putAll l ([], unwritten) → without-room t ≡ head? l

@@ -93,6 +93,6 @@ countOf w g = askWord refused w (ask (leb g 32) (refused 3) (given (descendantCo
 
 -- ---- the first descendant
 
--- the first in list order of these, or none
+-- the first in list order of the semigroups of genus g whose smallest gaps are exactly the gaps of w, or none
 unfoldable pub firstDescendantOf : ℕ → ℕ → Answer (Option ℕ)
 firstDescendantOf w g = askWord refused w (ask (leb g 32) (refused 3) (given (head? (descendants g w))))

@@ -59,11 +59,11 @@ module _ (g w : ℕ) where
   descendant-begins m = keep-mem _ (genusList g) m .1
 
   -- none of the others is a descendant
-  pub not-before : (v : ℕ) → List·Memᴰ v (wordsBefore g w) → ¬ List·Memᴰ v (descendants g w)
-  not-before v m d = begins-apart (gaps w) (gaps v) (descendant-begins d) .0 (before-mem m)
+  pub before-no-descendant : (v : ℕ) → List·Memᴰ v (wordsBefore g w) → ¬ List·Memᴰ v (descendants g w)
+  before-no-descendant v m d = begins-apart (gaps w) (gaps v) (descendant-begins d) .0 (before-mem m)
 
-  pub not-after : (v : ℕ) → List·Memᴰ v (wordsAfter g w) → ¬ List·Memᴰ v (descendants g w)
-  not-after v m d = begins-apart (gaps w) (gaps v) (descendant-begins d) .1 (after-mem m)
+  pub after-no-descendant : (v : ℕ) → List·Memᴰ v (wordsAfter g w) → ¬ List·Memᴰ v (descendants g w)
+  after-no-descendant v m d = begins-apart (gaps w) (gaps v) (descendant-begins d) .1 (after-mem m)
 
 -- ---- the place where they start
 

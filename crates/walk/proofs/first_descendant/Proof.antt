@@ -9,7 +9,7 @@ use Rattle.tables.specs.Nodes.{nodeOf}
 use Rattle.tables.specs.Answers.{noded, nodeAnswer}
 use Rattle.walk.specs.Walks.{firstDescendantOf}
 use Rattle.tables.proofs.Levels.{accepted-levels}
-use Rattle.walk.proofs.Descendants.{first-refused, first-below, first-leaves}
+use Rattle.walk.proofs.Descendants.{descendant-refused, descendant-below, descendant-leaves}
 use Rattle.walk.proofs.first_descendant.Statement.{statement}
 use Rattle.walk.proofs.first_descendant.Tie as tie
 
@@ -28,13 +28,13 @@ unfolding nodeAnswer
 accepted c = word-given _ (nodeOf _) _ (sym (c .before .before .node-of .ensures) ∙ ap noded (c .answer2 .given .1))
 
 returns : tie.Need-returns
-returns c = sym (first-refused _ _ (accepted (c .before .before) .0) (c .if1 .taken))
+returns c = sym (descendant-refused _ _ (accepted (c .before .before) .0) (c .if1 .taken))
 
 genus-of-requires : tie.Need-genus-of-requires
 genus-of-requires c κs = search needs
 
 returns-2 : tie.Need-returns-2
-returns-2 c = sym (first-below _ _ (accepted (c .before .before .before .before) .0) (omega (arith, c .before .genus-of .ensures)))
+returns-2 c = sym (descendant-below _ _ (accepted (c .before .before .before .before) .0) (omega (arith, c .before .genus-of .ensures)))
 
 first-leaf-requires : tie.Need-first-leaf-requires
 first-leaf-requires c κs =
@@ -52,7 +52,7 @@ returns-4 c =
     let at = c .before .before .before .before .before in
     let start = at .before .before .before in
     ap given (rw (accepted at .1, c .before .before .genus-of .ensures) at (c .first-leaf .ensures))
-    ∙ sym (first-leaves _ _ (accepted at .0) (c .before .before .before .if1 .left) (omega (arith, c .before .before .genus-of .ensures)) (start .fits .word .fits))
+    ∙ sym (descendant-leaves _ _ (accepted at .0) (c .before .before .before .if1 .left) (omega (arith, c .before .before .genus-of .ensures)) (start .fits .word .fits))
 
 pub first-descendant-spec : {M : Type 1} → statement M
 first-descendant-spec =
