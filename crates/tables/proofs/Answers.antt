@@ -9,7 +9,7 @@ use borrow.Author.Tests.{le-leb, lt-leb}
 use Rattle.words.specs.Words.{bit, genus, conductor, closed, childWord}
 use Rattle.words.specs.Elements.{generator}
 use Rattle.words.specs.Answers.{refused, given, ask, Accepted}
-use Rattle.words.proofs.Answers.{asked}
+use Rattle.words.proofs.Answers.{genus-asked, genus-refused}
 use Rattle.words.proofs.Elements.{conductor-pos, mem-right-generators}
 use Rattle.tables.specs.Nodes.{nodeOf, childNode, firstRow}
 use Rattle.tables.specs.Levels.{NodeWithLevels}
@@ -22,7 +22,7 @@ use Rattle.tables.proofs.FirstRow.{row-bit}
 -- an accepted word of genus 32 is refused a child
 pub no-child : (w e : ℕ) → Accepted w → 31 < genus w → childOf w e ≡ refused 3
 unfolding childOf
-no-child w e h full = asked refused w _ h ∙ simp (lt-leb (genus w + 1) 32 (omega arith))
+no-child w e h full = genus-refused w (genus w + 1) _ h (omega arith)
 
 module _ (n : Node) (e : ℕ) (h : NodeWithLevels 1 n) where
   abbrev w : ℕ
@@ -31,7 +31,7 @@ module _ (n : Node) (e : ℕ) (h : NodeWithLevels 1 n) where
   -- question 5
   asked-five : (b : Bool) → (leb (conductor w) e && generator w e) ≡ b → childOf (n .word) e ≡ ask b (refused 5) (given (childWord w e))
   unfolding childOf
-  asked-five b t = asked refused w _ (record { closed = h .levels .closed; few = omega (arith, h .levels .few) }) ∙ simp (le-leb (genus w + 1) 32 (h .levels .few), t)
+  asked-five b t = genus-asked w (genus w + 1) _ (record { closed = h .levels .closed; few = omega (arith, h .levels .few) }) (h .levels .few) ∙ rw t
 
   same-conductor : n .conductor ≡ conductor w
   same-conductor = node-conductor 1 n h
