@@ -12,12 +12,12 @@ static int refused(uint64_t number) {
   return 1;
 }
 
-/* Prints the descendants of a word: as many lines as the count says, by batches from the first of them on. */
-static void print_descendants(uint64_t ancestor, uint64_t genus) {
+/* Prints the descendants of a word, which are `count`, by batches from the first of them on. */
+static void print_descendants(uint64_t ancestor, uint64_t genus, uint64_t count) {
   atlas_found first = atlas_first_descendant(ancestor, genus);
   if (!first.found) return;
   atlas_walk walk = atlas_start(first.word).walk;
-  for (uint64_t left = atlas_count(ancestor, genus).value; left > 0;) {
+  for (uint64_t left = count; left > 0;) {
     uint64_t words[64];
     atlas_moved moved = atlas_batch(walk, words, left < 64 ? left : 64);
     for (size_t i = 0; i < moved.count; i++) {
@@ -43,7 +43,7 @@ int main(int argc, char **argv) {
     uint64_t ancestor;
     walk = atlas_batch(walk, &ancestor, 1).walk;
     uint64_t count = atlas_count(ancestor, genus).value;
-    if (count > 0 && place * parts / all.value + 1 == part) print_descendants(ancestor, genus);
+    if (place * parts / all.value + 1 == part) print_descendants(ancestor, genus, count);
     place += count;
   }
   return 0;
