@@ -862,8 +862,8 @@ fn counts(n: u64, words: &Words, r: &mut Random) -> Kind {
 }
 
 /// The list of each genus up to 14, cut by each word of genus 0 to 9 up to its own: the descendants stand side by side in it, none of the others
-/// between; the first of them and their number are told, and a walk from the first on writes just these, by one list or by two. In the order
-/// of the words of a genus they are the whole list.
+/// between; the first of them and their number are told, and a walk from the first on writes just these, by two lists that are together as
+/// long. In the order of the words of a genus they are the whole list.
 fn stretches(words: &Words, r: &mut Random) -> Kind {
     let mut kind = Kind::new("descendants cut out of genus lists");
     for (h, ancestors) in words.lists.iter().enumerate().take(10) {
