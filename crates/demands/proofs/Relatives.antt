@@ -26,7 +26,7 @@ use Rattle.walk.specs.declared.Walk.{Walk}
 use Rattle.walk.specs.Walks.{standing, Ending, startOf, batchOf, countOf, firstDescendantOf}
 use Rattle.walk.proofs.Walks.{batch-standing, start-standing, count-answers}
 use Rattle.walk.proofs.Descendants.{descendant-answers, descendant-answer-iff}
-use Rattle.demands.specs.Demand3.{atlas, batches, wrote, lengths, N}
+use Rattle.demands.specs.Demand3.{atlas, batches, wrote, N}
 use Rattle.demands.specs.Relatives.{Ancestor, CutByWord, FromFirst, writtenFrom, writtenByFirst, share, CutByGenus, Relatives}
 use Rattle.demands.proofs.Demand3.{lengths-lent, demanded, batches-wrote}
 
@@ -83,42 +83,47 @@ module _ (w g : ℕ) (h : Ancestor w g) where
       let all = first-of-all D all-descendants v in
       (λ e. all .0 (first .0 e), λ f. first .1 (all .1 f))
 
-  -- a walk that is started on it
-  module _ (v : ℕ) (l : List ℕ) (split : D ≡ v ∷ l) where
-    -- it has the descendants and then the words after them still to give, an end of the genus list
-    is-end : wordsBefore g w ++ (D ++ A) ≡ windowList g 1 33
-    is-end = stretch g w (h .own-le) ∙ sym (window-whole g (h .small))
+  -- ---- the walk from it on
 
-    starts : startOf v ≡ given (standing g 1 33 (D ++ A))
-    starts =
-        start-standing g v (wordsBefore g w) (l ++ A) (h .small)
-        (ap (λ (k : List ℕ). wordsBefore g w ++ (k ++ A)) (sym split) ∙ stretch g w (h .own-le))
-        ∙ ap (λ (k : List ℕ). given (standing g 1 33 (k ++ A))) (sym split)
+  -- it has the descendants and then the words after them still to give
+  abbrev onFirst : Walk
+  onFirst = standing g 1 33 (D ++ A)
 
-    exactly : (lents : List (List ℕ)) → sumOver length lents ≡ length D → joined wrote (batches atlas (standing g 1 33 (D ++ A)) lents) ≡ D
-    unfolding N
-    exactly lents e =
-        let calls = batches atlas (standing g 1 33 (D ++ A)) lents in
-        let first : N (D ++ A) calls ≡ length D = omega (arith, lengths-lent (standing g 1 33 (D ++ A)) lents, length-append D A) in
-        batches-wrote g 1 33 (D ++ A) (wordsBefore g w) is-end (h .small) lents ∙ ap (λ (n : ℕ). take n (D ++ A)) first ∙ take-append-seam D A
+  -- which are an end of the genus list
+  is-end : wordsBefore g w ++ (D ++ A) ≡ windowList g 1 33
+  is-end = stretch g w (h .own-le) ∙ sym (window-whole g (h .small))
 
-    in-one-list : (lent : List ℕ) → length lent ≡ length D → batchOf (standing g 1 33 (D ++ A)) lent .list ≡ D
-    in-one-list lent e =
-        let n : min (length lent) (length (D ++ A)) ≡ length D = omega (arith, length-append D A) in
-        ap (λ (e : Ending). e .list) (batch-standing g 1 33 (h .small) (wordsBefore g w) (D ++ A) lent is-end)
-        ∙ ap (λ (n : ℕ). take n (D ++ A) ++ drop n lent) n
-        ∙ ap₂ _++_ (take-append-seam D A) (drop-of-length-le lent {i = length D} (omega arith)) ∙ append-nil D
+  -- the start call gives that walk for the first descendant
+  starts : (v : ℕ) (l : List ℕ) → D ≡ v ∷ l → startOf v ≡ given onFirst
+  starts v l split =
+      start-standing g v (wordsBefore g w) (l ++ A) (h .small)
+      (ap (λ (k : List ℕ). wordsBefore g w ++ (k ++ A)) (sym split) ∙ stretch g w (h .own-le))
+      ∙ ap (λ (k : List ℕ). given (standing g 1 33 (k ++ A))) (sym split)
 
-    from-first : (lents : List (List ℕ)) → FromFirst w g v lents
-    unfolding placeOf descendantCount
-    from-first lents = record {
-      same-place = ap length (before-first g w v l (h .own-le) split);
-      walk = standing g 1 33 (D ++ A);
-      start-answers = starts;
-      demanded = demanded g 1 33 (D ++ A) (wordsBefore g w) is-end (h .small) (startOf v) starts lents;
-      exactly = exactly lents;
-      in-one-list = in-one-list;
-    }
+  exactly : (lents : List (List ℕ)) → sumOver length lents ≡ length D → joined wrote (batches atlas onFirst lents) ≡ D
+  unfolding N
+  exactly lents e =
+      let calls = batches atlas onFirst lents in
+      let first : N (D ++ A) calls ≡ length D = omega (arith, lengths-lent onFirst lents, length-append D A) in
+      batches-wrote g 1 33 (D ++ A) (wordsBefore g w) is-end (h .small) lents ∙ ap (λ (n : ℕ). take n (D ++ A)) first ∙ take-append-seam D A
+
+  in-one-list : (lent : List ℕ) → length lent ≡ length D → batchOf onFirst lent .list ≡ D
+  in-one-list lent e =
+      let n : min (length lent) (length (D ++ A)) ≡ length D = omega (arith, length-append D A) in
+      ap (λ (e : Ending). e .list) (batch-standing g 1 33 (h .small) (wordsBefore g w) (D ++ A) lent is-end)
+      ∙ ap (λ (n : ℕ). take n (D ++ A) ++ drop n lent) n
+      ∙ ap₂ _++_ (take-append-seam D A) (drop-of-length-le lent {i = length D} (omega arith)) ∙ append-nil D
+
+  from-first : (v : ℕ) (l : List ℕ) → D ≡ v ∷ l → (lents : List (List ℕ)) → FromFirst w g v lents
+  unfolding placeOf descendantCount
+  from-first v l split lents = record {
+    same-place = ap length (before-first g w v l (h .own-le) split);
+    walk = onFirst;
+    start-answers = starts v l split;
+    demanded = demanded g 1 33 (D ++ A) (wordsBefore g w) is-end (h .small) (startOf v) (starts v l split) lents;
+    exactly = exactly lents;
+    in-one-list = in-one-list;
+  }
 
   -- ---- the share of w
 
@@ -129,7 +134,7 @@ module _ (w g : ℕ) (h : Ancestor w g) where
     where
       by-first : (k : List ℕ) → D ≡ k → writtenByFirst (given (head? k)) lents ≡ D
       by-first [] split = sym split
-      by-first (v ∷ l) split = ap (λ (a : Answer Walk). writtenFrom a lents) (starts v l split) ∙ exactly v l split lents e
+      by-first (v ∷ l) split = ap (λ (a : Answer Walk). writtenFrom a lents) (starts v l split) ∙ exactly lents e
 
 -- ---- the claim
 

@@ -15,6 +15,7 @@ use Rattle.words.proofs.Leaves.{descendants-at}
 use Rattle.walk.specs.Walks.{firstDescendantOf}
 
 module _ (w g : ℕ) (h : Accepted w) where
+  -- above genus 32 it is refused
   pub descendant-refused : 32 < g → firstDescendantOf w g ≡ refused 3
   unfolding firstDescendantOf
   descendant-refused = genus-refused w g _ h

@@ -41,7 +41,7 @@ known-list g h = sym (getD-map-run genusList [] 0 5 g h ∙ ap genusList (zero-a
 pub known-stretches : map (λ w. wordsBefore 4 w ∷ descendants 4 w ∷ wordsAfter 4 w ∷ []) (11 ∷ 19 ∷ [])
     ≡ ((15 ∷ 23 ∷ 39 ∷ 71 ∷ []) ∷ (27 ∷ 75 ∷ []) ∷ (85 ∷ []) ∷ []) ∷ ((15 ∷ 23 ∷ 39 ∷ 71 ∷ 27 ∷ 75 ∷ []) ∷ [] ∷ (85 ∷ []) ∷ []) ∷ []
 unfolding run keep begins bit setOf gaps descendants comesBefore wordsBefore wordsAfter
-known-stretches = rw (known-list 4 (omega arith))
+known-stretches = rw (known-list 4 (omega arith)) refl
 
 -- the looks at the words 0, 1, 5, 111, 91, 13, that of the gaps 1 to 32, and that of the gaps 1 to 33
 pub known-looks : map lookOf (0 ∷ 1 ∷ 5 ∷ 111 ∷ 91 ∷ 13 ∷ 4294967295 ∷ 8589934591 ∷ [])

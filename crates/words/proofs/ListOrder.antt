@@ -1,20 +1,18 @@
 -- List order: at the first place where two lists of numbers differ, the smaller number comes first. Assumes nothing.
 use Prim.Native.Nat.{ℕ, _≤_}
-use mathlib.Core.Path.{_≡_, refl, sym, _∙_, ap, subst₂}
-use mathlib.Core.Logic.{_⊎_, inl, inr, _↔_, ⊎-elim}
-use mathlib.Core.Bool.{Bool, true, _||_, and-eq-true-iff, or-true}
+use mathlib.Core.Path.{_≡_, refl, sym, _∙_, subst₂}
+use mathlib.Core.Logic.{_⊎_, inl, inr, ⊎-elim}
+use mathlib.Core.Bool.{true, and-eq-true-iff}
 use mathlib.Core.List.{List, [], _∷_, _++_, append-nil, map}
 use native.Mathlib.Omega.{arith}
 use native.Mathlib.Nat.{eq-or-lt-of-le}
 use native.Mathlib.Decide.{decLt}
-use lib.Dec.{eqb, ltb}
+use lib.Dec.{eqb}
 use lib.ListN.{length}
-use borrow.Author.Tests.{eqb-true, eq-eqb, ltb-true, lt-ltb}
+use borrow.Author.Tests.{eq-eqb}
 use Rattle.words.specs.Lists.{begins, Ordered}
 use Rattle.words.specs.Words.{gaps}
 use Rattle.words.specs.GenusList.{Before, Earlier}
-use Rattle.words.specs.Relatives.{comesBefore}
-use Rattle.words.proofs.Booleans.{not-both, by-value}
 use Rattle.words.proofs.Lists.{begins-rest, ordered-map}
 
 -- it holds one way round only
@@ -27,22 +25,11 @@ before-asym (x ∷ k) (y ∷ l) (inl h) (inr c) = omega arith
 before-asym (x ∷ k) (y ∷ l) (inr b) (inl i) = omega arith
 before-asym (x ∷ k) (y ∷ l) (inr b) (inr c) = before-asym k l (b .1) (c .1)
 
+-- so of words
 pub earlier-asym : (v w : ℕ) → Earlier v w → Earlier w v → ⊥
 earlier-asym v w = before-asym (gaps v) (gaps w)
 
--- the test decides it
-pub before-iff : (k l : List ℕ) → (comesBefore k l ≡ true) ↔ Before k l
-unfolding comesBefore Before
-before-iff [] l = (λ e. absurd (not-both e refl), λ b. absurd b)
-before-iff (x ∷ k) [] = (λ e. absurd (not-both e refl), λ b. absurd b)
-before-iff (x ∷ k) (y ∷ l) = (
-  λ e.
-      by-value (ltb x y) (λ h. inl (ltb-true x y h))
-      (λ h. let (p, q) = and-eq-true-iff (eqb x y) (comesBefore k l) .0 (rw h at e) in inr (eqb-true x y p, before-iff k l .0 q)),
-  ⊎-elim (λ h. rw (lt-ltb x y h))
-      (λ (same, b). ap (λ (c : Bool). ltb x y || c) (and-eq-true-iff (eqb x y) (comesBefore k l) .1 (eq-eqb x y same, before-iff k l .1 b)) ∙ or-true (ltb x y)),
-)
-
+-- and what comes before one that comes before m comes before m
 pub before-trans : (k l m : List ℕ) → Before k l → Before l m → Before k m
 unfolding Before
 before-trans [] l m b c = b

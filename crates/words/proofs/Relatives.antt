@@ -1,28 +1,43 @@
 -- Relatives stand together: in any list of words in list order the descendants of a word are one stretch, behind those before the word and in
 -- front of those after it; and a genus list is the stretches of the words of a smaller genus, in their order. Assumes nothing.
 use Prim.Native.Nat.{ℕ, zero, suc, _+_, _-_, _^_, _≤_, _<_}
-use mathlib.Core.Path.{_≡_, sym, _∙_, ap, subst}
-use mathlib.Core.Logic.{inl, inr, ⊎-elim}
-use mathlib.Core.Bool.{Bool, true}
-use mathlib.Core.List.{List, _∷_, _++_, append-nil, List·Memᴰ}
+use mathlib.Core.Path.{_≡_, refl, sym, _∙_, ap, subst}
+use mathlib.Core.Logic.{inl, inr, _↔_, ⊎-elim}
+use mathlib.Core.Bool.{Bool, true, _||_, and-eq-true-iff, or-true}
+use mathlib.Core.List.{List, [], _∷_, _++_, append-nil, List·Memᴰ}
 use native.Mathlib.Omega.{arith}
 use native.Mathlib.Nat.{zero-add, suc-add}
+use lib.Dec.{eqb, ltb}
 use lib.ListN.{length, take, drop}
+use borrow.Author.Tests.{eqb-true, eq-eqb, ltb-true, lt-ltb}
 use lib.Seq.{take-append-seam, drop-append-seam}
 use Rattle.words.specs.Lists.{keep, joined, sumOver, begins, Ordered}
 use Rattle.words.specs.Words.{gaps, genus, closed, childWord}
 use Rattle.words.specs.Elements.{rightGenerators}
-use Rattle.words.specs.GenusList.{genusList, descendants, descendantCount, Earlier}
+use Rattle.words.specs.GenusList.{genusList, descendants, descendantCount, Before, Earlier}
 use Rattle.words.specs.Tree.{leaves}
 use Rattle.words.specs.Relatives.{comesBefore, wordsBefore, wordsAfter, placeOf}
-use Rattle.words.proofs.Booleans.{is-false}
+use Rattle.words.proofs.Booleans.{not-both, is-false, by-value}
 use Rattle.words.proofs.Lists.{keep-mem, append-each, joined-cong, joined-append, joined-joined, joined-mem, length-joined}
 use Rattle.words.proofs.Kept.{keep-front, ordered-three, in-front-of}
-use Rattle.words.proofs.ListOrder.{before-asym, earlier-asym, before-iff, before-trans, three-ways, begins-follows, begins-apart}
+use Rattle.words.proofs.ListOrder.{before-asym, earlier-asym, before-trans, three-ways, begins-follows, begins-apart}
 use Rattle.words.proofs.GenusList.{genus-list-mem, genus-list-ordered}
 use Rattle.words.proofs.Tree.{descendants-mem, descendants-zero, descendants-own}
 use Rattle.words.proofs.Words.{genus-zero, closed-zero}
 use Rattle.words.proofs.Leaves.{descendants-at}
+
+-- the test of list order decides it
+pub before-iff : (k l : List ℕ) → (comesBefore k l ≡ true) ↔ Before k l
+unfolding comesBefore Before
+before-iff [] l = (λ e. absurd (not-both e refl), λ b. absurd b)
+before-iff (x ∷ k) [] = (λ e. absurd (not-both e refl), λ b. absurd b)
+before-iff (x ∷ k) (y ∷ l) = (
+  λ e.
+      by-value (ltb x y) (λ h. inl (ltb-true x y h))
+      (λ h. let (p, q) = and-eq-true-iff (eqb x y) (comesBefore k l) .0 (rw h at e) in inr (eqb-true x y p, before-iff k l .0 q)),
+  ⊎-elim (λ h. rw (lt-ltb x y h))
+      (λ (same, b). ap (λ (c : Bool). ltb x y || c) (and-eq-true-iff (eqb x y) (comesBefore k l) .1 (eq-eqb x y same, before-iff k l .1 b)) ∙ or-true (ltb x y)),
+)
 
 -- ---- the descendants of a word stand side by side
 
