@@ -27,6 +27,14 @@ struct Report {
 
 #[repr(C)]
 #[derive(Clone, Copy, PartialEq, Debug)]
+struct Table {
+    refused: u64,
+    table: u64,
+    generators: u64,
+}
+
+#[repr(C)]
+#[derive(Clone, Copy, PartialEq, Debug)]
 struct Walk {
     genus: u64,
     word: u64,
@@ -76,7 +84,7 @@ struct Changed {
 
 extern "C" {
     fn atlas_look(word: u64) -> Report;
-    fn atlas_seed_table(word: u64) -> Number;
+    fn atlas_seed_table(word: u64) -> Table;
     fn atlas_child(word: u64, element: u64) -> Number;
     fn atlas_grandchildren(word: u64) -> Number;
     fn atlas_fresh(genus: u64) -> Begun;
@@ -192,22 +200,29 @@ fn generator(word: u64, x: u64) -> bool {
     x > 0 && holds(word, x) && !sum_of_two(|a| holds(word, a), x)
 }
 
-fn seed_table(word: u64) -> u64 {
+/// The seed table of a word, and the number of 1s in row 0.
+fn seed_table(word: u64) -> Table {
     let c = conductor(word);
     let k = (c - gaps(word).len() as u64) as usize;
     let elements: Vec<u64> = (0..).filter(|&x| holds(word, x)).take(k + 1).collect();
     let mut table = 0;
+    let mut generators = 0;
     let mut place = 0;
     for i in 0..k {
         for j in 0..elements[i + 1] - elements[i] {
             let left = |x: u64| holds(word, x) && !elements[1..=i].contains(&x);
             if !sum_of_two(left, c + j + elements[i]) {
                 table += 2u64.pow(place);
+                generators += (i == 0) as u64;
             }
             place += 1;
         }
     }
-    table
+    Table {
+        refused: 0,
+        table,
+        generators,
+    }
 }
 
 fn children(word: u64) -> Vec<u64> {
@@ -492,6 +507,15 @@ impl Words {
         }
     }
 
+    /// Any word, or, as often, a semigroup of genus 30 to 32.
+    fn any_or_last(&self, r: &mut Random) -> u64 {
+        if r.below(2) == 0 {
+            self.last[r.below(self.last.len() as u64) as usize]
+        } else {
+            self.any(r)
+        }
+    }
+
     /// The words of a window of a genus, the first `most` of them: by the list where it is at hand, else by the tree.
     fn window(&self, genus: u64, lowest: u8, highest: u8, most: usize) -> Vec<u64> {
         if let Some(list) = self.lists.get(genus as usize) {
@@ -560,6 +584,37 @@ impl Kind {
     }
 }
 
+/// Which answers of a call on `n` words were met, and how many accepted words of each genus.
+struct Met {
+    n: u64,
+    answers: [u64; 3],
+    genera: [u64; 33],
+}
+
+impl Met {
+    fn new(n: u64) -> Met {
+        Met {
+            n,
+            answers: [0; 3],
+            genera: [0; 33],
+        }
+    }
+
+    /// Counts a word with its refusal, 0 where it is accepted.
+    fn word(&mut self, word: u64, refused: u64) {
+        self.answers[refused as usize] += 1;
+        if refused == 0 {
+            self.genera[gaps(word).len()] += 1;
+        }
+    }
+
+    /// Each answer must be met, and genus 30, 31 and 32.
+    fn check(&self) {
+        assert!(self.answers.iter().all(|&q| q > self.n / 100), "each answer is met: {:?}", self.answers);
+        assert!(self.genera[30..].iter().all(|&g| g > self.n / 10), "genus 30, 31 and 32 are met: {:?}", self.genera);
+    }
+}
+
 // ---- the calls
 
 /// Looks at random words; refusals of each number and the word 0 are met.
@@ -591,12 +646,38 @@ fn looks(n: u64, words: &Words, r: &mut Random) -> Kind {
     kind
 }
 
+/// Seed tables with their numbers, of random words, half of them of genus 30 to 32; each answer and these genera are met.
 fn tables(n: u64, words: &Words, r: &mut Random) -> Kind {
     let mut kind = Kind::new("seed table");
+    let mut met = Met::new(n);
     for _ in 0..n {
-        let w = words.any(r);
-        let plain = word_refused(w).map_or_else(|| given(seed_table(w)), refused);
+        let w = words.any_or_last(r);
+        let plain = match word_refused(w) {
+            Some(refused) => Table {
+                refused,
+                table: 0,
+                generators: 0,
+            },
+            None => seed_table(w),
+        };
+        met.word(w, plain.refused);
         kind.same(unsafe { atlas_seed_table(w) }, plain, &|| w.to_string());
+    }
+    met.check();
+    kind
+}
+
+/// Of every word of genus 0 to 10, and of many of genus 30 to 32: the number with the table is that of the elements at which a child is
+/// given, and the count one genus on; at genus 32 it is given although there are none.
+fn counted_children(words: &Words) -> Kind {
+    let mut kind = Kind::new("children of listed words, by the number with the table");
+    for w in words.lists[..11].iter().flatten().chain(&words.last).copied() {
+        let genus = gaps(w).len() as u64;
+        let generators = unsafe { atlas_seed_table(w) }.generators;
+        let answered = (0..130).filter(|&e| unsafe { atlas_child(w, e) }.refused == 0).count() as u64;
+        kind.same(answered, if genus < 32 { generators } else { 0 }, &|| w.to_string());
+        let next = if genus < 32 { given(generators) } else { refused(3) };
+        kind.same(unsafe { atlas_count(w, genus + 1) }, next, &|| w.to_string());
     }
     kind
 }
@@ -614,22 +695,14 @@ fn listed_grandchildren(words: &Words) -> Kind {
 /// Grandchildren of random words, half of them of genus 30 to 32; each of these genera and each answer is met.
 fn many_grandchildren(n: u64, words: &Words, r: &mut Random) -> Kind {
     let mut kind = Kind::new("grandchildren");
-    let mut met = [0u64; 3];
-    let mut genera = [0u64; 33];
+    let mut met = Met::new(n);
     for _ in 0..n {
-        let w = if r.below(2) == 0 { words.last[r.below(words.last.len() as u64) as usize] } else { words.any(r) };
-        let plain = match word_refused(w) {
-            Some(q) => refused(q),
-            None => {
-                genera[gaps(w).len()] += 1;
-                given(grandchildren(w))
-            }
-        };
-        met[plain.refused as usize] += 1;
+        let w = words.any_or_last(r);
+        let plain = word_refused(w).map_or_else(|| given(grandchildren(w)), refused);
+        met.word(w, plain.refused);
         kind.same(unsafe { atlas_grandchildren(w) }, plain, &|| w.to_string());
     }
-    assert!(met.iter().all(|&q| q > n / 100), "each answer is met: {met:?}");
-    assert!(genera[30..].iter().all(|&g| g > n / 10), "genus 30, 31 and 32 are met: {genera:?}");
+    met.check();
     kind
 }
 
@@ -1292,12 +1365,16 @@ fn walked(genus: u64, lowest: u8, highest: u8) -> Vec<u64> {
     }
 }
 
-/// The grandchildren of all words of genus 30, 31 and 32, together: the numbers of semigroups of genus 32, 33 and 34 (OEIS A007323).
-fn all_grandchildren() -> Kind {
-    let mut kind = Kind::new("grandchildren, summed over a genus");
-    for (genus, known) in [(30, 15_195_070), (31, 24_896_206), (32, 40_761_087)] {
-        let sum: u64 = walked(genus, 1, 33).iter().map(|&w| unsafe { atlas_grandchildren(w) }.value).sum();
-        kind.same(sum, known, &|| genus.to_string());
+/// The numbers with the tables of all words of genus 30, 31 and 32, together, and their grandchildren: the numbers of semigroups one and two
+/// genera on (OEIS A007323).
+fn summed_over_a_genus() -> Kind {
+    let mut kind = Kind::new("seed table and grandchildren, summed over a genus");
+    for (genus, one_on, two_on) in [(30, 9_266_788, 15_195_070), (31, 15_195_070, 24_896_206), (32, 24_896_206, 40_761_087)] {
+        let list = walked(genus, 1, 33);
+        let generators: u64 = list.iter().map(|&w| unsafe { atlas_seed_table(w) }.generators).sum();
+        let grandchildren: u64 = list.iter().map(|&w| unsafe { atlas_grandchildren(w) }.value).sum();
+        kind.same(generators, one_on, &|| genus.to_string());
+        kind.same(grandchildren, two_on, &|| genus.to_string());
     }
     kind
 }
@@ -1395,9 +1472,10 @@ fn main() {
         looks(400_000, &words, &mut r),
         tables(100_000, &words, &mut r),
         childs(150_000, &words, &mut r),
+        counted_children(&words),
         listed_grandchildren(&words),
         many_grandchildren(60_000, &words, &mut r),
-        all_grandchildren(),
+        summed_over_a_genus(),
         starts(60_000, &words, &mut r),
         fresh_ins(20_000, &words, &mut r),
         start_ins(60_000, &words, &mut r),

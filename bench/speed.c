@@ -94,7 +94,7 @@ static uint64_t coordinates_back(uint64_t word) {
   return count;
 }
 
-static uint64_t tabled(uint64_t word) { return atlas_seed_table(word).value; }
+static uint64_t tabled(uint64_t word) { return atlas_seed_table(word).table; }
 static uint64_t grandchildren(uint64_t word) { return atlas_grandchildren(word).value; }
 
 /* The same number for a word of genus 24 by the count, which makes the children. */

@@ -19,6 +19,10 @@ static void check(bool holds, const char *what, int line) {
 
 static bool number_is(atlas_number a, uint64_t refused, uint64_t value) { return a.refused == refused && a.value == value; }
 
+static bool table_is(atlas_table t, uint64_t refused, uint64_t table, uint64_t generators) {
+  return t.refused == refused && t.table == table && t.generators == generators;
+}
+
 static bool found_is(atlas_found f, uint64_t refused, bool found, uint64_t word) {
   return f.refused == refused && f.found == found && f.word == word;
 }
@@ -50,22 +54,41 @@ static void words(void) {
    seed table has one entry, and its child is at 1 and nowhere else. */
 static void both_conventions(void) {
   CHECK(report_is(atlas_look(0), 0, 0, 1, 0, -1));
-  CHECK(number_is(atlas_seed_table(0), 0, 1));
+  CHECK(table_is(atlas_seed_table(0), 0, 1, 1));
   CHECK(number_is(atlas_child(0, 1), 0, 1));
   CHECK(number_is(atlas_child(0, 0), 5, 0));
   CHECK(number_is(atlas_child(0, 2), 5, 0));
 }
 
 static void tables(void) {
-  CHECK(number_is(atlas_seed_table(111), 0, 251));
-  CHECK(number_is(atlas_seed_table(too_many), 1, 0));
-  CHECK(number_is(atlas_seed_table(not_closed), 2, 0));
+  CHECK(table_is(atlas_seed_table(111), 0, 251, 4));
+  CHECK(table_is(atlas_seed_table(of_genus_32), 0, 16909515400900422314u, 1));
+  CHECK(table_is(atlas_seed_table(4294967295), 0, 8589934591, 33));
+  CHECK(table_is(atlas_seed_table(too_many), 1, 0, 0));
+  CHECK(table_is(atlas_seed_table(not_closed), 2, 0, 0));
   CHECK(number_is(atlas_child(1, 3), 0, 5));
   CHECK(number_is(atlas_child(too_many, 40), 1, 0));
   CHECK(number_is(atlas_child(not_closed, 5), 2, 0));
   CHECK(number_is(atlas_child(of_genus_32, 65), 3, 0));
   CHECK(number_is(atlas_child(1, 4), 5, 0));
   CHECK(number_is(atlas_child(1, UINT64_MAX), 5, 0));
+}
+
+/* At how many elements is a child given? A generator is below the conductor plus the multiplicity, at most 97. */
+static uint64_t children_given(uint64_t word) {
+  uint64_t count = 0;
+  for (uint64_t element = 0; element < 97; element++) count += atlas_child(word, element).refused == 0;
+  return count;
+}
+
+/* The number with the table is that of the children, up to genus 31; at genus 32 it is given, and every child is refused. */
+static void children(void) {
+  uint64_t out[67];
+  CHECK(atlas_batch(atlas_fresh(8).walk, out, 67).finished);
+  for (int i = 0; i < 67; i++) CHECK(children_given(out[i]) == atlas_seed_table(out[i]).generators);
+  CHECK(children_given(2147483647) == 32 && atlas_seed_table(2147483647).generators == 32);
+  CHECK(children_given(4294967295) == 0 && atlas_seed_table(4294967295).generators == 33);
+  CHECK(children_given(of_genus_32) == 0 && atlas_seed_table(of_genus_32).generators == 1);
 }
 
 /* Up to genus 30 the number is that of the semigroups two genera on; 4294967295 has the gaps 1 to 32. */
@@ -321,6 +344,7 @@ int main(void) {
   words();
   both_conventions();
   tables();
+  children();
   grandchildren();
   beginnings();
   batches();

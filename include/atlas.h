@@ -40,6 +40,13 @@ typedef struct {
   uint64_t value;
 } atlas_number;
 
+/* A seed table, and the number of 1s in its row 0, which is the number of generators not below the conductor. */
+typedef struct {
+  uint64_t refused;
+  uint64_t table;
+  uint64_t generators;
+} atlas_table;
+
 /* Whether there is a word that was looked for, and which; 0 where there is none. */
 typedef struct {
   uint64_t refused;
@@ -101,8 +108,10 @@ typedef struct {
 /* Genus, multiplicity, reported conductor and largest gap of a word; 0, 1, 0 and -1 for the word 0. Refusals 1, 2. */
 atlas_report atlas_look(uint64_t word);
 
-/* The seed table of a word: bit l is entry l of the joined rows, and the bits from the conductor up are clear. Refusals 1, 2. */
-atlas_number atlas_seed_table(uint64_t word);
+/* The seed table of a word: bit l is entry l of the joined rows, and the bits from the conductor up are clear. The number beside it is that of
+   the word's children, the elements at which atlas_child answers, up to genus 31; at genus 32 it is given too, although every child is
+   refused. Refusals 1, 2. */
+atlas_table atlas_seed_table(uint64_t word);
 
 /* The word of the semigroup without `element`, a generator not below the conductor. Refusals 1, 2, 3, 5. */
 atlas_number atlas_child(uint64_t word, uint64_t element);

@@ -8,12 +8,14 @@ use lib.Dec.{eqb, leb}
 use lib.IntN.{pos}
 use Rattle.words.specs.Answers.{Answer, refused, given, ask}
 use Rattle.words.specs.declared.Report.{Report}
+use Rattle.tables.specs.declared.Table.{Table}
 use Rattle.editor.specs.Changes.{Change}
 use Rattle.editor.specs.States.{State, Outcome, changeOf}
 use Rattle.walk.specs.declared.Walk.{Walk}
 use Rattle.walk.specs.declared.Written.{Written}
 use Rattle.walk.specs.Walks.{Ending, batchOf}
 use Rattle.atlas.specs.declared.AtlasNumber.{AtlasNumber}
+use Rattle.atlas.specs.declared.AtlasTable.{AtlasTable}
 use Rattle.atlas.specs.declared.AtlasFound.{AtlasFound}
 use Rattle.atlas.specs.declared.AtlasReport.{AtlasReport}
 use Rattle.atlas.specs.declared.AtlasWalk.{AtlasWalk}
@@ -26,6 +28,11 @@ use Rattle.atlas.specs.declared.AtlasChanged.{AtlasChanged}
 abbrev pub numberIn : Answer ℕ → AtlasNumber
 numberIn (refused n) = record { refused = n; value = 0 }
 numberIn (given v) = record { refused = 0; value = v }
+
+-- a seed table with the number of 1s in its row 0
+abbrev pub tableIn : Answer Table → AtlasTable
+tableIn (refused n) = record { refused = n; table = 0; generators = 0 }
+tableIn (given t) = record { refused = 0; table = t .table; generators = t .generators }
 
 -- a word that was looked for: whether there is one, and which
 abbrev pub foundIn : Answer (Option ℕ) → AtlasFound

@@ -4,7 +4,7 @@ ghost use mathlib.Core.Path.{_≡_};
 ghost use mathlib.Core.Bool.{true};
 ghost use mathlib.Core.List.{[]};
 ghost use Rattle.words.specs.Answers.{answered, soughtAnswered, looked, lookOf, numberOf};
-ghost use Rattle.tables.specs.Answers.{tableOf, childOf, grandchildrenOf};
+ghost use Rattle.tables.specs.Answers.{tabled, tableOf, childOf, grandchildrenOf};
 ghost use Rattle.walk.specs.Answers.{begun, reported};
 ghost use Rattle.walk.specs.Walks.{freshOf, freshInOf, startOf, startInOf, countOf, firstDescendantOf};
 ghost use Rattle.generators.specs.Generators.{generatorsOf, wordFromOf};
@@ -13,11 +13,12 @@ ghost use Rattle.kunz.specs.Coordinates.{coordinatesOf, wordFromCoordinatesOf};
 ghost use Rattle.search.specs.Wanted.{findOf};
 ghost use Rattle.editor.specs.Changes.{addition, removal};
 ghost use Rattle.editor.specs.States.{said, stateOf, told};
-ghost use Rattle.atlas.specs.Interface.{numberIn, foundIn, reportIn, walkIn, begunIn, unmovedIn, movedIn, batchIn, editorIn, editorFrom, answerFrom, unchangedIn, changedIn, changeIn};
+ghost use Rattle.atlas.specs.Interface.{numberIn, tableIn, foundIn, reportIn, walkIn, begunIn, unmovedIn, movedIn, batchIn, editorIn, editorFrom, answerFrom, unchangedIn, changedIn, changeIn};
 ghost use Rattle.atlas.specs.Private.{isKept};
 use editor::ChangeAnswer;
 use editor::Changed;
 use editor::Editor;
+use tables::TableAnswer;
 use walk::BatchAnswer;
 use walk::Walk;
 use walk::WalkAnswer;
@@ -33,6 +34,14 @@ use words::Refusal;
 pub struct AtlasNumber {
     pub refused: u64,
     pub value: u64,
+}
+
+// A seed table and the number of 1s in its row 0, or the number of a refusal.
+#[repr(C)]
+pub struct AtlasTable {
+    pub refused: u64,
+    pub table: u64,
+    pub generators: u64,
 }
 
 // Whether there is a word that was looked for, and which, or the number of a refusal.
@@ -104,6 +113,24 @@ fn number_of(answer: NumberAnswer) -> AtlasNumber
             value: 0,
         },
         NumberAnswer::Given(value) => AtlasNumber { refused: 0, value },
+    }
+}
+
+// A seed table with its number, as they get it.
+fn table_of(answer: TableAnswer) -> AtlasTable
+    ensures { λ r. ⌜ r ≡ tableIn (tabled answer) ⌝ }
+{
+    match answer {
+        TableAnswer::Refused(refusal) => AtlasTable {
+            refused: refusal.number(),
+            table: 0,
+            generators: 0,
+        },
+        TableAnswer::Given(given) => AtlasTable {
+            refused: 0,
+            table: given.table,
+            generators: given.generators,
+        },
     }
 }
 
@@ -303,12 +330,12 @@ pub extern "C" fn atlas_look(word: u64) -> AtlasReport
     report_of(words::look(word))
 }
 
-// The seed table of a word. Questions 1, 2.
+// The seed table of a word, and the number of generators not below the conductor, which are the 1s in row 0. Questions 1, 2.
 #[no_mangle]
-pub extern "C" fn atlas_seed_table(word: u64) -> AtlasNumber
-    ensures { λ r. ⌜ r ≡ numberIn (tableOf word) ⌝ }
+pub extern "C" fn atlas_seed_table(word: u64) -> AtlasTable
+    ensures { λ r. ⌜ r ≡ tableIn (tableOf word) ⌝ }
 {
-    number_of(tables::seed_table(word))
+    table_of(tables::seed_table(word))
 }
 
 // The word of the child without a generator. Questions 1, 2, 3, 5.

@@ -13,7 +13,7 @@ use Rattle.words.specs.declared.Report.{Report}
 use Rattle.words.proofs.Answers.{look-given, room}
 use Rattle.words.proofs.Cases.{known-looks, known-list}
 use Rattle.tables.specs.Answers.{tableOf, childOf}
-use Rattle.tables.proofs.Cases.{known-tables, known-children, no-child-at-32}
+use Rattle.tables.proofs.Cases.{tableGiven, known-tables, known-children, no-child-at-32}
 use Rattle.walk.specs.declared.Walk.{Walk}
 use Rattle.walk.specs.Walks.{freshOf}
 use Rattle.demands.specs.Demand3.{atlas, batches}
@@ -28,11 +28,11 @@ abbrev lookGiven : ℕ → ℕ → ℕ → ℤ → Answer Report
 lookGiven g m c f = given record { genus = g; multiplicity = m; conductor = c; «largest_gap» = f }
 
 pub record Marked : Type 0 where
-  pub word-0 : (lookOf 0 ≡ lookGiven 0 1 0 (negsuc 0)) × (tableOf 0 ≡ given 1)
-  pub word-1 : (lookOf 1 ≡ lookGiven 1 2 2 (pos 1)) × (tableOf 1 ≡ given 3)
-  pub word-5 : (lookOf 5 ≡ lookGiven 2 2 4 (pos 3)) × (tableOf 5 ≡ given 14)
-  pub word-111 : (lookOf 111 ≡ lookGiven 6 5 8 (pos 7)) × (tableOf 111 ≡ given 251)
-  pub word-91 : (lookOf 91 ≡ lookGiven 5 3 8 (pos 7)) × (tableOf 91 ≡ given 237)
+  pub word-0 : (lookOf 0 ≡ lookGiven 0 1 0 (negsuc 0)) × (tableOf 0 ≡ tableGiven 1 1)
+  pub word-1 : (lookOf 1 ≡ lookGiven 1 2 2 (pos 1)) × (tableOf 1 ≡ tableGiven 3 2)
+  pub word-5 : (lookOf 5 ≡ lookGiven 2 2 4 (pos 3)) × (tableOf 5 ≡ tableGiven 14 1)
+  pub word-111 : (lookOf 111 ≡ lookGiven 6 5 8 (pos 7)) × (tableOf 111 ≡ tableGiven 251 4)
+  pub word-91 : (lookOf 91 ≡ lookGiven 5 3 8 (pos 7)) × (tableOf 91 ≡ tableGiven 237 2)
   -- in any list that holds them
   pub generators-of-91 : (lent : List ℕ) → 3 ≤ length lent → generatorsOf 91 lent ≡ giving 3 (3 ∷ 8 ∷ 10 ∷ drop 3 lent)
   pub word-13 : lookOf 13 ≡ refused 2
@@ -50,15 +50,16 @@ pub record Marked : Type 0 where
   pub gaps-1-to-33 : lookOf 8589934591 ≡ refused 1
   pub elementary-5 : (elementaryOf 7 5 ≡ given 3) × (elementaryOf 10 5 ≡ given 0)
 
--- one of the looks, and one of the tables, that `words` and `tables` compute
+-- one of the answers that a crate computes together
+answer-at : {A : Type 0} {k l : List (Answer A)} (i : ℕ) → k ≡ l → getD k i (refused 0) ≡ getD l i (refused 0)
+answer-at i e = ap (λ l. getD l i (refused 0)) e
+
+-- one of the looks that `words` computes
 look : (i : ℕ) → getD (map lookOf (0 ∷ 1 ∷ 5 ∷ 111 ∷ 91 ∷ 13 ∷ 4294967295 ∷ 8589934591 ∷ [])) i (refused 0)
     ≡ getD
     (lookGiven 0 1 0 (negsuc 0) ∷ lookGiven 1 2 2 (pos 1) ∷ lookGiven 2 2 4 (pos 3) ∷ lookGiven 6 5 8 (pos 7) ∷ lookGiven 5 3 8 (pos 7)
     ∷ refused 2 ∷ lookGiven 32 33 33 (pos 32) ∷ refused 1 ∷ []) i (refused 0)
-look i = ap (λ (l : List (Answer Report)). getD l i (refused 0)) known-looks
-
-number : {k l : List (Answer ℕ)} (i : ℕ) → k ≡ l → getD k i (refused 0) ≡ getD l i (refused 0)
-number i e = ap (λ (l : List (Answer ℕ)). getD l i (refused 0)) e
+look i = answer-at i known-looks
 
 -- the word 91 is accepted, and its generators are 3, 8 and 10
 generators-of-91 : (lent : List ℕ) → 3 ≤ length lent → generatorsOf 91 lent ≡ giving 3 (3 ∷ 8 ∷ 10 ∷ drop 3 lent)
@@ -71,19 +72,19 @@ generators-of-91 lent long =
 
 pub marked : Marked
 marked = record {
-  word-0 = (look 0, number 0 known-tables);
-  word-1 = (look 1, number 1 known-tables);
-  word-5 = (look 2, number 2 known-tables);
-  word-111 = (look 3, number 3 known-tables);
-  word-91 = (look 4, number 4 known-tables);
+  word-0 = (look 0, answer-at 0 known-tables);
+  word-1 = (look 1, answer-at 1 known-tables);
+  word-5 = (look 2, answer-at 2 known-tables);
+  word-111 = (look 3, answer-at 3 known-tables);
+  word-91 = (look 4, answer-at 4 known-tables);
   generators-of-91 = generators-of-91;
   word-13 = look 5;
-  children-of-1 = (number 0 (known-children .1), number 1 (known-children .1), number 2 (known-children .1));
+  children-of-1 = (answer-at 0 (known-children .1), answer-at 1 (known-children .1), answer-at 2 (known-children .1));
   genus-4 = known-list 4 (omega arith);
   genus-4-by-3-0-5 = genus-four;
-  generators-2-65 = (number 0 known-words, no-child-at-32);
-  generators-2-67 = number 1 known-words;
-  generators-4-6 = number 2 known-words;
+  generators-2-65 = (answer-at 0 known-words, no-child-at-32);
+  generators-2-67 = answer-at 1 known-words;
+  generators-4-6 = answer-at 2 known-words;
   gaps-1-to-32 = look 6;
   gaps-1-to-33 = look 7;
   elementary-5 = (known-counts .0, known-counts .1);

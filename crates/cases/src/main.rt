@@ -2,6 +2,7 @@
 // the calls answer. What it prints is held to the stored file: the tables of the descendants of example 1.4 worked by hand by lemma 3.1, the rest
 // computed apart from the plain definitions. The marked cases are proved: proofs/Marked.antt.
 use libc::STDOUT_FILENO;
+use tables::TableAnswer;
 use walk::BatchAnswer;
 use walk::Walk;
 use walk::WalkAnswer;
@@ -96,11 +97,23 @@ fn show_both(word: u64) {
     end();
 }
 
+// A seed table and the number of 1s in its row 0, or the number of a refusal.
+fn table(word: u64) {
+    let a = tables::seed_table(word);
+    match a {
+        TableAnswer::Refused(r) => refusal(r),
+        TableAnswer::Given(given) => {
+            field(given.table);
+            field(given.generators);
+        }
+    }
+}
+
 fn show_table(word: u64) {
     text(b"seed table");
     field(word);
     text(b":");
-    answer(tables::seed_table(word));
+    table(word);
     end();
 }
 
@@ -115,7 +128,7 @@ fn show_child(word: u64, element: u64) {
     answer(a);
     if let NumberAnswer::Given(w) = a {
         text(b" table");
-        answer(tables::seed_table(w));
+        table(w);
     }
     end();
 }
@@ -331,6 +344,45 @@ fn grandchildren() {
     show_grandchildren(18446744073709551615);
 }
 
+// The elements below 128 at which a word has a child.
+fn elements_with_a_child(word: u64) {
+    for e in 0..128u64 {
+        let a = tables::child(word, Element(e));
+        if let NumberAnswer::Given(_) = a {
+            field(e);
+        }
+    }
+}
+
+// The table of a word with its number, and where its children are.
+fn show_children(word: u64) {
+    text(b"children");
+    field(word);
+    text(b" table");
+    table(word);
+    text(b" at");
+    elements_with_a_child(word);
+    end();
+}
+
+// As many children as row 0 has 1s, up to genus 31; none at genus 32, and of refused words.
+fn children() {
+    show_children(0);
+    show_children(1);
+    show_children(5);
+    show_children(111);
+    show_children(75);
+    show_children(2147483647);
+    show_children(1537228672809129301);
+    show_children(1261567);
+    show_children(4294967295);
+    show_children(6148914691236517205);
+    show_children(292805464964331487);
+    show_children(13);
+    show_children(8589934591);
+    show_children(18446744073709551615);
+}
+
 // How many descendants of a genus a word has, and the first of them.
 fn show_descendants(word: u64, genus: u64) {
     text(b"descendants of");
@@ -376,5 +428,6 @@ fn main() {
     windows();
     searches();
     grandchildren();
+    children();
     descendants();
 }

@@ -16,7 +16,7 @@ use Rattle.tables.specs.Levels.{NodeWithLevels}
 use Rattle.tables.specs.declared.Node.{Node}
 use Rattle.tables.specs.Answers.{childOf}
 use Rattle.tables.proofs.Nodes.{node-child}
-use Rattle.tables.proofs.Levels.{node-conductor}
+use Rattle.tables.proofs.Levels.{node-accepted, node-conductor}
 use Rattle.tables.proofs.FirstRow.{row-bit}
 
 -- an accepted word of genus 32 is refused a child
@@ -24,14 +24,18 @@ pub no-child : (w e : ℕ) → Accepted w → 31 < genus w → childOf w e ≡ r
 unfolding childOf
 no-child w e h full = genus-refused w (genus w + 1) _ h (omega arith)
 
+-- up to genus 31 it is put question 5
+pub child-asked : (w e : ℕ) → Accepted w → genus w ≤ 31 → childOf w e ≡ ask (leb (conductor w) e && generator w e) (refused 5) (given (childWord w e))
+unfolding childOf
+child-asked w e h few = genus-asked w (genus w + 1) _ h (omega arith)
+
 module _ (n : Node) (e : ℕ) (h : NodeWithLevels 1 n) where
   abbrev w : ℕ
   w = n .word
 
   -- question 5
   asked-five : (b : Bool) → (leb (conductor w) e && generator w e) ≡ b → childOf (n .word) e ≡ ask b (refused 5) (given (childWord w e))
-  unfolding childOf
-  asked-five b t = genus-asked w (genus w + 1) _ (record { closed = h .levels .closed; few = omega (arith, h .levels .few) }) (h .levels .few) ∙ rw t
+  asked-five b t = child-asked w e (node-accepted 1 n h) (omega (arith, h .levels .few)) ∙ rw t
 
   same-conductor : n .conductor ≡ conductor w
   same-conductor = node-conductor 1 n h

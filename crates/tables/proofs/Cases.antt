@@ -1,4 +1,4 @@
--- The known tables, seeds, rows, children, nodes and numbers of grandchildren, computed from the definitions. Assumes nothing.
+-- The known tables with their numbers, seeds, rows, children, nodes and numbers of grandchildren, computed from the definitions. Assumes nothing.
 use Prim.Native.Nat.{ℕ}
 use mathlib.Core.Path.{_≡_, refl}
 use mathlib.Core.Bool.{true, false}
@@ -9,18 +9,33 @@ use Rattle.words.specs.Words.{bit, setOf, gaps, genus, digit, largestGap, condu
 use Rattle.words.specs.Elements.{elementsBelow, elementAt, multiplicity, generator, rightGenerators}
 use Rattle.words.specs.GenusList.{risings}
 use Rattle.words.specs.GapLists.{setMissing, closedGaps, extensions}
-use Rattle.words.specs.Answers.{refused, given, askWord}
-use Rattle.tables.specs.Seeds.{leftAfter, seedOfOrder, orderOneSeed, seed, row, seedBits, seedTable}
+use Rattle.words.specs.Answers.{Answer, refused, given, askWord}
+use Rattle.tables.specs.Seeds.{leftAfter, seedOfOrder, orderOneSeed, seed, row, firstRowOnes, seedBits, seedTable}
 use Rattle.tables.specs.Child.{struck, struckBits, padded, lastThreeSet, childBits}
 use Rattle.tables.specs.Nodes.{nodeOf, firstRow, secondRow}
 use Rattle.tables.specs.Grandchildren.{grandchildCount}
-use Rattle.tables.specs.Answers.{nodeAnswer, tableOf, childOf, grandchildrenOf}
+use Rattle.tables.specs.Answers.{nodeAnswer, tableOf, childOf, childElements, grandchildrenOf}
+use Rattle.tables.specs.declared.Table.{Table}
 
--- the tables of the words 0, 1, 5, 111, 91 and 13, and of the word of the gaps 1 to 33
+-- a table, and the number of 1s in its row 0
+abbrev pub tableGiven : ℕ → ℕ → Answer Table
+tableGiven s n = given record { table = s; generators = n }
+
+-- the tables of the words 0, 1, 5, 111 and 91 with their numbers of 1s in row 0; the words 13 and that of the gaps 1 to 33 are refused
 pub known-tables : map tableOf (0 ∷ 1 ∷ 5 ∷ 111 ∷ 91 ∷ 13 ∷ 8589934591 ∷ [])
-    ≡ given 1 ∷ given 3 ∷ given 14 ∷ given 251 ∷ given 237 ∷ refused 2 ∷ refused 1 ∷ []
-unfolding run keep keepIf every joined bit setOf gaps genus lastOr largestGap conductor closed elementsBelow elementAt sumOfTwo leftAfter seed row seedBits digit ofBits seedTable askWord tableOf
+    ≡ tableGiven 1 1 ∷ tableGiven 3 2 ∷ tableGiven 14 1 ∷ tableGiven 251 4 ∷ tableGiven 237 2 ∷ refused 2 ∷ refused 1 ∷ []
+unfolding run keep keepIf every joined bit setOf gaps genus lastOr largestGap conductor closed elementsBelow elementAt sumOfTwo leftAfter seed row firstRowOnes seedBits digit ofBits seedTable askWord tableOf
 known-tables = refl
+
+-- of genus 32: the words of the generators 2 and 65 and of the gaps 1 to 32
+pub known-tables-at-32 : map tableOf (6148914691236517205 ∷ 4294967295 ∷ []) ≡ tableGiven 16909515400900422314 1 ∷ tableGiven 8589934591 33 ∷ []
+unfolding run keep keepIf every joined bit setOf gaps genus lastOr largestGap conductor closed elementsBelow elementAt sumOfTwo leftAfter seed row firstRowOnes seedBits digit ofBits seedTable askWord tableOf
+known-tables-at-32 = refl
+
+-- the elements at which the words 0, 1 and 111 have their children
+pub known-child-elements : map (λ w. childElements w 20) (0 ∷ 1 ∷ 111 ∷ []) ≡ (1 ∷ []) ∷ (2 ∷ 3 ∷ []) ∷ (8 ∷ 9 ∷ 11 ∷ 12 ∷ []) ∷ []
+unfolding run keep keepIf every bit setOf gaps genus lastOr largestGap conductor closed sumOfTwo generator childWord askWord childOf childElements
+known-child-elements = refl
 
 -- the word 0, by the conductor of source 000, which is 1: one row of one entry, and its one generator from there on, at which it has its
 -- child, is 1

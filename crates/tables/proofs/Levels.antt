@@ -1,13 +1,18 @@
--- Nodes of accepted words: the levels below them, and the conductor that they carry. Assumes nothing.
+-- Nodes of accepted words: the levels below them, the conductor that they carry, and the number of right generators that their row 0 tells.
+-- Assumes nothing.
 use Prim.Native.Nat.{ℕ, _+_, _^_, _≤_, _<_}
-use mathlib.Core.Path.{_≡_, refl, ap}
+use mathlib.Core.Path.{_≡_, refl, sym, ap, _∙_}
 use native.Mathlib.Omega.{arith}
+use lib.Count.{ones}
+use lib.ListN.{length}
 use Rattle.words.specs.Words.{genus, conductor}
+use Rattle.words.specs.Elements.{rightGenerators}
 use Rattle.words.specs.Answers.{Accepted}
 use Rattle.words.proofs.Words.{genus-zero, closed-zero}
-use Rattle.tables.specs.Nodes.{nodeOf}
+use Rattle.tables.specs.Nodes.{nodeOf, firstRow}
 use Rattle.tables.specs.Levels.{NodeWithLevels}
 use Rattle.tables.specs.declared.Node.{Node}
+use Rattle.tables.proofs.Nodes.{first-row-count}
 
 -- an accepted word has the levels up to genus 32 below its node
 pub accepted-levels : (r w : ℕ) → w < 2 ^ 64 → Accepted w → genus w + r ≤ 32 → NodeWithLevels r (nodeOf w)
@@ -20,7 +25,16 @@ root-levels r h =
     let genus-is = genus-zero in
     accepted-levels r 0 (omega arith) record { closed = closed-zero; few = omega arith } (omega arith)
 
+-- a word with levels below its node is accepted
+pub node-accepted : (r : ℕ) (n : Node) → NodeWithLevels r n → Accepted (n .word)
+node-accepted r n at = record { closed = at .levels .closed; few = omega (arith, at .levels .few) }
+
 -- the conductor that a node carries is its word's
 pub node-conductor : (r : ℕ) (n : Node) → NodeWithLevels r n → n .conductor ≡ conductor (n .word)
 unfolding nodeOf
 node-conductor r n at = ap (λ (m : Node). m .conductor) (at .node)
+
+-- and the 1s of its row 0 are as many as its word's right generators
+pub node-generators : (r : ℕ) (n : Node) → NodeWithLevels r n → ones (firstRow n) ≡ length (rightGenerators (n .word))
+node-generators r n at =
+    ap (λ (m : Node). ones (firstRow m)) (at .node) ∙ sym (first-row-count (n .word) (at .levels .fits) (at .levels .closed) (omega (arith, at .levels .few)))

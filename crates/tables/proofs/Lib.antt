@@ -17,4 +17,5 @@ pub mod GrandchildLists
 pub mod GrandchildCounts
 pub mod Way
 pub mod Answers
+pub mod Children
 pub mod Cases

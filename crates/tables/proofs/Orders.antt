@@ -45,9 +45,9 @@ module _ (w : ℕ) (fits : w < 2 ^ 64) where
     size = elementAt w (suc i) - elementAt w i
 
     -- an entry of row i tells it
-    entry : seed w i j ≡ seedOfOrder w i (conductor w + j)
+    pub entry-tells : seed w i j ≡ seedOfOrder w i (conductor w + j)
     unfolding seed
-    entry = sym (seed-sum i low (conductor w + j) (omega arith))
+    entry-tells = sym (seed-sum i low (conductor w + j) (omega arith))
 
     -- and past the entries there is none
     past : size ≤ j → false ≡ seedOfOrder w i (conductor w + j)
@@ -57,7 +57,7 @@ module _ (w : ℕ) (fits : w < 2 ^ 64) where
     pub row-entry : getD (row w i) j false ≡ seedOfOrder w i (conductor w + j)
     unfolding row
     row-entry = elim (decLt j size) [
-      | yes h ↦ getD-map-run (seed w i) false 0 size j h ∙ ap (seed w i) (zero-add j) ∙ entry
+      | yes h ↦ getD-map-run (seed w i) false 0 size j h ∙ ap (seed w i) (zero-add j) ∙ entry-tells
       | no h ↦ List·getD-eq-default (row w i) false (omega (arith, length-map (run 0 size) (seed w i), length-run 0 size)) ∙ past (omega arith)
     ]
 
@@ -66,7 +66,7 @@ module _ (w : ℕ) (fits : w < 2 ^ 64) where
     row-part = bit-low (seedTable w / 2 ^ elementAt w i) size j ∙ elim (decLt j size) [
       | yes h ↦ ap₂ _&&_ (bit-shr (seedTable w) (elementAt w i) j
           ∙ table-bit w fits (elementAt w i + j) (omega (arith, element-le-conductor w fits (suc i) (omega arith))) ∙ sym (seed-entry w fits i j (omega arith)))
-          (lt-ltb j size h) ∙ and-true (seed w i j) ∙ entry
+          (lt-ltb j size h) ∙ and-true (seed w i j) ∙ entry-tells
       | no h ↦ ap (λ (b : Bool). bit (seedTable w / 2 ^ elementAt w i) j && b) (le-ltb j size (omega arith)) ∙ and-false (bit (seedTable w / 2 ^ elementAt w i) j) ∙ past (omega arith)
     ]
 

@@ -1,12 +1,13 @@
 // Seed tables: a semigroup under way, which carries its word, table and conductor and gives its own child, and the calls on words.
 ghost use Prim.Native.Nat.{_-_, _^_, _≤_};
 ghost use mathlib.Core.Path.{_≡_};
+ghost use lib.Count.{ones};
 ghost use Rattle.words.specs.Answers.{Accepted, answered};
 ghost use Rattle.tables.specs.Child.{raked};
 ghost use Rattle.tables.specs.Nodes.{nodeOf, childNode, firstRow, secondRow, lowestOffset, nextOffset};
 ghost use Rattle.tables.specs.Levels.{NodeWithLevels};
 ghost use Rattle.tables.specs.Grandchildren.{pairs, grandchildrenAt};
-ghost use Rattle.tables.specs.Answers.{noded, nodeAnswer, tableOf, childOf, grandchildrenOf};
+ghost use Rattle.tables.specs.Answers.{noded, nodeAnswer, tabled, tableOf, childOf, grandchildrenOf};
 use words::Element;
 use words::Index;
 use words::LookAnswer;
@@ -25,6 +26,18 @@ pub struct Node {
 pub enum NodeAnswer {
     Refused(Refusal),
     Given(Node),
+}
+
+// A seed table, and the number of 1s in its row 0: of the generators not below the conductor.
+pub struct Table {
+    pub table: u64,
+    pub generators: u64,
+}
+
+// The answer of the seed table call.
+pub enum TableAnswer {
+    Refused(Refusal),
+    Given(Table),
 }
 
 // The table with d rakings: each moves the word up by one place and keeps of the table what stands there too.
@@ -96,6 +109,14 @@ impl Node {
         self.table & (w ^ std::num::wrapping_add_u64(w, 1))
     }
 
+    // The number of 1s in row 0: of the generators not below the conductor.
+    pub fn generators(self) -> u64
+        ensures { λ r. ⌜ r ≡ ones (firstRow self) ⌝ }
+    {
+        let row = self.first_row();
+        u64::count_ones(row) as u64
+    }
+
     // Row 1 of the table: the offsets of the order-one seeds, as bits. It has as many bits as the word, moved down by the multiplicity,
     // has low bits that differ from those of the next number.
     pub fn second_row(self) -> u64
@@ -124,7 +145,7 @@ impl Node {
         let first = self.first_row();
         let second = self.second_row();
         let both = first & second;
-        pairs_among(u64::count_ones(first) as u64) + u64::count_ones(both) as u64
+        pairs_among(self.generators()) + u64::count_ones(both) as u64
     }
 
     // The offset of the word's first gap not below the conductor.
@@ -192,14 +213,18 @@ pub fn node_of(word: u64) -> NodeAnswer
     }
 }
 
-// The seed table of a word, with the same refusals.
-pub fn seed_table(word: u64) -> NumberAnswer
-    ensures { λ r. ⌜ answered r ≡ tableOf word ⌝ }
+// The seed table of a word and the number of 1s in its row 0, with the same refusals. At genus 32 too the number is given, although every
+// child is refused.
+pub fn seed_table(word: u64) -> TableAnswer
+    ensures { λ r. ⌜ tabled r ≡ tableOf word ⌝ }
 {
     let answer = node_of(word);
     match answer {
-        NodeAnswer::Refused(r) => NumberAnswer::Refused(r),
-        NodeAnswer::Given(n) => NumberAnswer::Given(n.table),
+        NodeAnswer::Refused(r) => TableAnswer::Refused(r),
+        NodeAnswer::Given(n) => TableAnswer::Given(Table {
+            table: n.table,
+            generators: n.generators(),
+        }),
     }
 }
 

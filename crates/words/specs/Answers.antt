@@ -3,7 +3,7 @@
 -- are definitions.
 use Prim.Native.Nat.{ℕ, _≤_}
 use mathlib.Core.Path.{_≡_}
-use mathlib.Core.Bool.{Bool, true, cond}
+use mathlib.Core.Bool.{Bool, true, false, cond}
 use mathlib.Core.List.{List}
 use mathlib.Core.Option.{Option, none, some}
 use lib.Dec.{leb}
@@ -28,6 +28,11 @@ use Rattle.words.specs.declared.LookAnswer.the-variants as L
 pub data Answer (A : Type 0) : Type 0 where
   refused : ℕ → Answer A
   given : A → Answer A
+
+-- is a value given
+abbrev pub isGiven : {A : Type 0} → Answer A → Bool
+isGiven (refused n) = false
+isGiven (given v) = true
 
 -- the number of the question that is answered no
 abbrev pub numberOf : Refusal → ℕ
