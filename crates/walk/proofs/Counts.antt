@@ -14,7 +14,9 @@ use Rattle.words.proofs.Answers.{asked, genus-refused}
 use Rattle.words.proofs.First.{genus-list-first}
 use Rattle.words.specs.Tree.{leaves}
 use Rattle.words.proofs.Leaves.{descendants-at}
+use Rattle.tables.specs.Seeds.{firstRowOnes}
 use Rattle.tables.specs.Answers.{grandchildrenOf}
+use Rattle.tables.proofs.FirstRow.{first-row-ones}
 use Rattle.tables.proofs.GrandchildCounts.{grandchildren-descendants}
 use Rattle.windows.specs.Windows.{windowList}
 use Rattle.windows.specs.declared.First.{First}
@@ -22,6 +24,7 @@ use Rattle.windows.specs.Answers.{firstIn, firstOf}
 use Rattle.walk.specs.declared.Walk.{Walk}
 use Rattle.walk.specs.Walks.{standing, freshOf, freshInOf, countOf}
 use Rattle.walk.proofs.Walks.{fresh-answers, count-answers}
+use Rattle.walk.proofs.BranchCounts.{length-children}
 
 -- ---- the fresh walk
 
@@ -53,6 +56,13 @@ module _ (w g : ℕ) (h : Accepted w) where
   pub count-leaves : g ≤ 32 → genus w ≤ g → w < 2 ^ 64 → countOf w g ≡ given (length (leaves (g - genus w) w))
   unfolding descendantCount
   count-leaves l k fits = count-answers w g h l ∙ ap (λ (k : List ℕ). given (length k)) (descendants-at g w fits (h .closed) k l)
+
+-- up to genus 31, the words one genus on are as many as row 0 of the table has 1s
+pub count-children : (w : ℕ) → w < 2 ^ 64 → Accepted w → genus w ≤ 31 → countOf w (genus w + 1) ≡ given (firstRowOnes w)
+count-children w fits h few =
+    let one : genus w + 1 - genus w ≡ 1 = omega arith in
+    count-leaves w (genus w + 1) h (omega arith) (omega arith) fits
+    ∙ ap given (ap (λ (r : ℕ). length (leaves r w)) one ∙ length-children w ∙ sym (first-row-ones w fits))
 
 -- up to genus 30, the words two genera on are the grandchildren
 pub count-grandchildren : (w : ℕ) → Accepted w → genus w ≤ 30 → countOf w (genus w + 2) ≡ grandchildrenOf w

@@ -68,13 +68,16 @@ fn later(row: u64, offset: Offset) -> u64
     (row >> passed) << passed
 }
 
-// How many words there are `left` levels below a node.
+// How many words there are `left` levels below a node: one level below it, as many as the node says.
 fn count_node(n: Node, left: u64) -> u64
     requires { ⌜ NodeWithLevels left n ⌝ }
     ensures { λ r. ⌜ r ≡ length (leaves left (n .word)) ⌝ }
 {
     if left == 0 {
         return 1;
+    }
+    if left == 1 {
+        return n.generators();
     }
     sum_from(n, n.first_row(), left - 1)
 }
@@ -85,9 +88,6 @@ fn sum_from(n: Node, rest: u64, left: u64) -> u64
     requires { ⌜ Offsets (n .word) rest ⌝ }
     ensures { λ r. ⌜ r ≡ length (branches left (n .word) rest) ⌝ }
 {
-    if left == 0 {
-        return u64::count_ones(rest) as u64;
-    }
     if rest == 0 {
         return 0;
     }
