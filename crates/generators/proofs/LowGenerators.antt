@@ -1,12 +1,13 @@
 -- The generators below the conductor by shifts: elements below it that are no sum of two such elements. Assumes nothing.
 use Prim.Native.Nat.{ℕ, suc, _+_, _*_, _-_, _%_, _^_, _≤_, _<_}
-use mathlib.Core.Path.{_≡_, refl, sym, ap, ap₂, fun-ext, _∙_}
+use mathlib.Core.Path.{_≡_, refl, sym, ap, ap₂, fun-ext, _∙_, subst}
 use mathlib.Core.Bool.{Bool, and-true, true, false, not, _||_, _&&_, and-false, or-false, and-eq-true-iff}
 use mathlib.Core.List.{List, [], _∷_, _++_, map}
 use native.Mathlib.Omega.{arith}
 use native.Mathlib.Nat.{mod-le, add-comm}
 use lib.Dec.{ltb, leb·suc-suc}
 use lib.Bits.{bitAnd, bitOr, and-mask}
+use lib.Count.{ones}
 use lib.ListN.{length, length-append, length-map}
 use borrow.Author.Tests.{ltb-true, lt-ltb, not-true, not-false}
 use Rattle.words.specs.Lists.{run, keep, every}
@@ -14,7 +15,7 @@ use Rattle.words.specs.Sets.{Set, sumOfTwo}
 use Rattle.words.specs.Words.{setOf, conductor}
 use Rattle.words.specs.Positions.{positions, bitsFrom}
 use Rattle.words.specs.Elements.{generator}
-use Rattle.words.specs.Answers.{given}
+use Rattle.words.specs.Answers.{Accepted}
 use Rattle.words.proofs.Booleans.{not-both, is-false, by-value, true-together}
 use Rattle.words.proofs.Lists.{run-mem, mem-run, keep-mem, mem-keep, ordered-run, ordered-keep, ordered-unique, every-mem, every-false, some-more, run-append}
 use Rattle.words.proofs.Bits.{bit-low, bit-not, one-shl}
@@ -22,16 +23,17 @@ use Rattle.words.proofs.Sets.{sum-of, sum-found, same-sums}
 use Rattle.words.proofs.BitSets.{bits-from-is, bits-from-same, bits-from-listed, bits-from-none, bits-from-not, bits-from-or, bits-from-and, bits-from-shl}
 use Rattle.words.proofs.Elements.{conductor-pos, generator-parts}
 use Rattle.words.proofs.Closure.{conductor-le-64}
-use Rattle.words.proofs.Answers.{word-given}
+use Rattle.words.proofs.StandingBits.{positions-ones}
 use Rattle.tables.specs.Seeds.{setBelow}
-use Rattle.tables.specs.Nodes.{nodeOf, firstRow}
-use Rattle.tables.specs.Answers.{nodeAnswer}
+use Rattle.tables.specs.Nodes.{firstRow}
+use Rattle.tables.specs.Levels.{NodeWithLevels}
 use Rattle.tables.specs.declared.Node.{Node}
-use Rattle.tables.proofs.FirstRow.{right-generators-row}
+use Rattle.tables.proofs.Nodes.{first-row-generators, first-row-fits}
+use Rattle.tables.proofs.Levels.{node-accepted, node-conductor}
 use Rattle.tables.proofs.Seeds.{below-in, in-below}
 use Rattle.generators.specs.Generators.{minimalGenerators}
 use Rattle.generators.proofs.MinimalGenerators.{generators-parts}
-use Rattle.generators.specs.Private.{lowGenerator, ConductorAndRow}
+use Rattle.generators.specs.Private.{lowGenerator}
 
 -- ---- sums of two
 
@@ -152,31 +154,37 @@ module _ (w : ℕ) where
         let l = run-mem 0 c i .1 in
         mem-keep (lowGenerator w) (run 1 64) (mem-run 1 64 (generator-parts w x g .0) (omega arith)) (and-eq-true-iff (ltb x c) (generator w x) .1 (lt-ltb x c (omega arith), g)))
 
--- ---- the minimal generators of an accepted word
+-- ---- the minimal generators of the word of a node
 
--- the node of a word tells what is to be known
-pub node-known : (w : ℕ) (n : Node) (row : ℕ) → nodeAnswer w ≡ given n → row ≡ firstRow n → ConductorAndRow w (n .conductor) row
-unfolding nodeAnswer nodeOf firstRow
-node-known w n row e r =
-    let (h, same) = word-given w (nodeOf w) n e in
-    record { accepted = h; conductor-is = ap (λ (k : Node). k .conductor) same; row-is = r ∙ ap firstRow same }
+module _ (n : Node) (at : NodeWithLevels 0 n) where
+  abbrev w : ℕ
+  w = n .word
 
-module _ {w c row : ℕ} (fits : w < 2 ^ 64) (known : ConductorAndRow w c row) where
+  accepted : Accepted (n .word)
+  accepted = node-accepted 0 n at
+
   -- its conductor is at most 64
-  pub conductor-small : c ≤ 64
-  conductor-small = omega (arith, known .conductor-is, conductor-le-64 w fits (known .accepted .closed) (known .accepted .few))
+  pub conductor-small : n .conductor ≤ 64
+  conductor-small = omega (arith, node-conductor 0 n at, conductor-le-64 w (at .levels .fits) (accepted .closed) (accepted .few))
 
   -- they are those of the bits below the conductor, and of the bits of the first row of the seed table
-  pub generators-listed : (low : ℕ) → low ≡ bitsFrom (lowGenerator w) 1
-      → minimalGenerators w ≡ map (λ d. 1 + d) (positions low) ++ map (λ d. c + d) (positions row)
+  pub generators-listed : (low : ℕ) → low ≡ bitsFrom (lowGenerator (n .word)) 1
+      → minimalGenerators (n .word) ≡ map (λ d. 1 + d) (positions low) ++ map (λ d. n .conductor + d) (positions (firstRow n))
   generators-listed low e =
-      generators-parts w fits
-      ∙ ap₂ _++_ (sym (low-listed w fits (omega (arith, conductor-small, known .conductor-is))) ∙ ap (λ (n : ℕ). map (λ d. 1 + d) (positions n)) (sym e))
-      (right-generators-row w fits (known .accepted .closed) (known .accepted .few) ∙ ap₂ (λ (n k : ℕ). map (λ d. k + d) (positions n)) (sym (known .row-is)) (sym (known .conductor-is)))
+      generators-parts w (at .levels .fits)
+      ∙ ap₂ _++_ (sym (low-listed w (at .levels .fits) (omega (arith, conductor-small, node-conductor 0 n at))) ∙ ap (λ (b : ℕ). map (λ d. 1 + d) (positions b)) (sym e))
+      (first-row-generators w (at .levels .fits) (accepted .closed) (accepted .few)
+      ∙ ap₂ (λ (b c : ℕ). map (λ d. c + d) (positions b)) (ap firstRow (sym (at .node))) (sym (node-conductor 0 n at)))
 
-  -- their number
-  pub generators-length : (low : ℕ) → low ≡ bitsFrom (lowGenerator w) 1
-      → length (minimalGenerators w) ≡ length (positions low) + length (positions row)
+  -- the bits of that row are as many as the node says
+  pub row-length : length (positions (firstRow n)) ≡ ones (firstRow n)
+  row-length =
+      positions-ones (firstRow n)
+      (subst (λ (k : Node). firstRow k < 2 ^ 64) (sym (at .node)) (first-row-fits w (at .levels .fits) (accepted .closed) (accepted .few)))
+
+  -- so that their number is that of the bits below the conductor, and the node's number
+  pub generators-length : (low : ℕ) → low ≡ bitsFrom (lowGenerator (n .word)) 1
+      → length (minimalGenerators (n .word)) ≡ length (positions low) + ones (firstRow n)
   generators-length low e =
-      ap length (generators-listed low e) ∙ length-append (map (λ d. 1 + d) (positions low)) (map (λ d. c + d) (positions row))
-      ∙ ap₂ _+_ (length-map (positions low) (λ d. 1 + d)) (length-map (positions row) (λ d. c + d))
+      ap length (generators-listed low e) ∙ length-append (map (λ d. 1 + d) (positions low)) (map (λ d. n .conductor + d) (positions (firstRow n)))
+      ∙ ap₂ _+_ (length-map (positions low) (λ d. 1 + d)) (length-map (positions (firstRow n)) (λ d. n .conductor + d) ∙ row-length)

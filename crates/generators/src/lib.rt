@@ -11,10 +11,12 @@ ghost use Rattle.words.specs.Sets.{gapsTo};
 ghost use Rattle.words.specs.Words.{bit, conductor, wordOf};
 ghost use Rattle.words.specs.Positions.{positions, bitsFrom};
 ghost use Rattle.words.specs.Answers.{answered, listed};
+ghost use Rattle.tables.specs.Levels.{NodeWithLevels};
 ghost use Rattle.generators.specs.Divisors.{gcd, gcdOf};
 ghost use Rattle.generators.specs.Sums.{spans};
 ghost use Rattle.generators.specs.Generators.{generatorsOf, wordFromOf};
-ghost use Rattle.generators.specs.Private.{ConductorAndRow, lowGenerator};
+ghost use Rattle.generators.specs.Private.{lowGenerator};
+use tables::Node;
 use tables::NodeAnswer;
 use words::NumberAnswer;
 use words::Refusal;
@@ -175,18 +177,19 @@ fn standing_bits(bits: u64) -> usize
     u64::count_ones(bits) as usize
 }
 
-// The minimal generators of an accepted word of conductor `c`, the first row of whose seed table is `row`, into the lent list.
-fn generators_of(word: u64, c: u64, row: u64, out: &mut [u8]) -> NumberAnswer
-    requires { ⌜ ConductorAndRow word c row ⌝ }
-    ensures { λ r. ⌜ listed r (now (out .exit)) ≡ generatorsOf word (now (out .entry)) ⌝ }
+// The minimal generators of the word of a node into the lent list: those below the conductor, and those that row 0 of the table tells.
+fn generators_of(n: Node, out: &mut [u8]) -> NumberAnswer
+    requires { ⌜ NodeWithLevels 0 n ⌝ }
+    ensures { λ r. ⌜ listed r (now (out .exit)) ≡ generatorsOf (n .word) (now (out .entry)) ⌝ }
 {
-    let low = low_generators(word, c);
-    let count = standing_bits(low) + standing_bits(row);
+    let c = n.conductor;
+    let low = low_generators(n.word, c);
+    let count = standing_bits(low) + n.generators() as usize;
     if out.len() < count {
         return NumberAnswer::Refused(Refusal::ListTooShort);
     }
     let at = write_bits(low, 1, 0, out);
-    let end = write_bits(row, c, at, out);
+    let end = write_bits(n.first_row(), c, at, out);
     NumberAnswer::Given(end as u64)
 }
 
@@ -198,6 +201,6 @@ pub fn generators(word: u64, out: &mut [u8]) -> NumberAnswer
     let answer = tables::node_of(word);
     match answer {
         NodeAnswer::Refused(r) => NumberAnswer::Refused(r),
-        NodeAnswer::Given(n) => generators_of(word, n.conductor, n.first_row(), out),
+        NodeAnswer::Given(n) => generators_of(n, out),
     }
 }

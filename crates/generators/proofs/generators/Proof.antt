@@ -1,12 +1,14 @@
 -- `generators::generators` meets its contract: the node of an accepted word tells what the work needs. Assumes nothing.
-use mathlib.Core.Path.{sym, ap, _∙_}
+use mathlib.Core.Path.{_≡_, sym, ap, _∙_}
+use native.Mathlib.Omega.{arith}
 use borrow.Author.Needs.{needs}
-use Rattle.words.specs.Answers.{unchanged, listedInto}
+use Rattle.words.specs.Answers.{unchanged, listedInto, Accepted}
 use Rattle.tables.specs.Nodes.{nodeOf}
 use Rattle.tables.specs.Answers.{noded, nodeAnswer}
-use Rattle.words.proofs.Answers.{word-refused}
+use Rattle.tables.specs.declared.Node.{Node}
+use Rattle.words.proofs.Answers.{word-refused, word-given}
+use Rattle.tables.proofs.Levels.{accepted-levels}
 use Rattle.generators.specs.Generators.{generatorsOf}
-use Rattle.generators.proofs.LowGenerators.{node-known}
 use Rattle.generators.proofs.generators.Statement.{statement}
 use Rattle.generators.proofs.generators.Tie as tie
 
@@ -19,13 +21,15 @@ enum-known-answer c = search needs
 enum-known-answer-2 : tie.Need-enum-known-answer-2
 enum-known-answer-2 c = search needs
 
-first-row-requires : tie.Need-first-row-requires
-first-row-requires c κs = search needs
+-- a word whose node is given is accepted, and the node is its
+accepted : (c : tie.After-answer2) → let w = c .before .before .before .before .args .word in Accepted w × (c .answer2 .given .0 .0 ≡ nodeOf w)
+unfolding nodeAnswer
+accepted c = word-given _ (nodeOf _) _ (sym (c .before .before .node-of .ensures) ∙ ap noded (c .answer2 .given .1))
 
 generators-of-requires : tie.Need-generators-of-requires
 generators-of-requires c κs =
-    let told = c .before .before .before in
-    node-known _ _ _ (sym (told .before .before .node-of .ensures) ∙ ap noded (told .answer2 .given .1)) (c .before .first-row .ensures)
+    let at = c .before .before in
+    rw (accepted at .1) (accepted-levels 0 _ (omega arith) (accepted at .0) (omega (arith, accepted at .0 .few)))
 
 returns : tie.Need-returns
 unfolding generatorsOf listedInto nodeAnswer
@@ -38,7 +42,12 @@ same-length : tie.Need-same-length
 same-length c = search needs
 
 returns-2 : tie.Need-returns-2
-returns-2 c = search needs
+unfolding nodeOf
+returns-2 c =
+    let at-call = c .before .before in
+    let told = at-call .before .before .before in
+    let out = told .before .before .before .before .args .out .now in
+    at-call .generators-of .ensures ∙ ap (λ (n : Node). generatorsOf (n .word) out) (accepted told .1)
 
 pub generators-spec : {M : Type 1} → statement M
 generators-spec =
@@ -47,7 +56,6 @@ generators-spec =
     node-of-requires
     enum-known-answer
     enum-known-answer-2
-    first-row-requires
     generators-of-requires
     returns
     same-length
