@@ -1,6 +1,6 @@
 -- The generators below the conductor by shifts: elements below it that are no sum of two such elements. Assumes nothing.
 use Prim.Native.Nat.{ℕ, suc, _+_, _*_, _-_, _%_, _^_, _≤_, _<_}
-use mathlib.Core.Path.{_≡_, refl, sym, ap, ap₂, fun-ext, _∙_, subst}
+use mathlib.Core.Path.{_≡_, refl, sym, ap, ap₂, fun-ext, _∙_}
 use mathlib.Core.Bool.{Bool, and-true, true, false, not, _||_, _&&_, and-false, or-false, and-eq-true-iff}
 use mathlib.Core.List.{List, [], _∷_, _++_, map}
 use native.Mathlib.Omega.{arith}
@@ -23,13 +23,12 @@ use Rattle.words.proofs.Sets.{sum-of, sum-found, same-sums}
 use Rattle.words.proofs.BitSets.{bits-from-is, bits-from-same, bits-from-listed, bits-from-none, bits-from-not, bits-from-or, bits-from-and, bits-from-shl}
 use Rattle.words.proofs.Elements.{conductor-pos, generator-parts}
 use Rattle.words.proofs.Closure.{conductor-le-64}
-use Rattle.words.proofs.StandingBits.{positions-ones}
 use Rattle.tables.specs.Seeds.{setBelow}
 use Rattle.tables.specs.Nodes.{firstRow}
 use Rattle.tables.specs.Levels.{NodeWithLevels}
 use Rattle.tables.specs.declared.Node.{Node}
-use Rattle.tables.proofs.Nodes.{first-row-generators, first-row-fits}
-use Rattle.tables.proofs.Levels.{node-accepted, node-conductor}
+use Rattle.tables.proofs.Nodes.{first-row-generators}
+use Rattle.tables.proofs.Levels.{node-accepted, node-conductor, node-offsets}
 use Rattle.tables.proofs.Seeds.{below-in, in-below}
 use Rattle.generators.specs.Generators.{minimalGenerators}
 use Rattle.generators.proofs.MinimalGenerators.{generators-parts}
@@ -176,15 +175,9 @@ module _ (n : Node) (at : NodeWithLevels 0 n) where
       (first-row-generators w (at .levels .fits) (accepted .closed) (accepted .few)
       ∙ ap₂ (λ (b c : ℕ). map (λ d. c + d) (positions b)) (ap firstRow (sym (at .node))) (sym (node-conductor 0 n at)))
 
-  -- the bits of that row are as many as the node says
-  pub row-length : length (positions (firstRow n)) ≡ ones (firstRow n)
-  row-length =
-      positions-ones (firstRow n)
-      (subst (λ (k : Node). firstRow k < 2 ^ 64) (sym (at .node)) (first-row-fits w (at .levels .fits) (accepted .closed) (accepted .few)))
-
   -- so that their number is that of the bits below the conductor, and the node's number
   pub generators-length : (low : ℕ) → low ≡ bitsFrom (lowGenerator (n .word)) 1
       → length (minimalGenerators (n .word)) ≡ length (positions low) + ones (firstRow n)
   generators-length low e =
       ap length (generators-listed low e) ∙ length-append (map (λ d. 1 + d) (positions low)) (map (λ d. n .conductor + d) (positions (firstRow n)))
-      ∙ ap₂ _+_ (length-map (positions low) (λ d. 1 + d)) (length-map (positions (firstRow n)) (λ d. n .conductor + d) ∙ row-length)
+      ∙ ap₂ _+_ (length-map (positions low) (λ d. 1 + d)) (length-map (positions (firstRow n)) (λ d. n .conductor + d) ∙ node-offsets 0 n at)

@@ -1,8 +1,8 @@
 -- The elements at which the child call gives a word: up to genus 31 the generators not below the conductor, as many as row 0 of the table has
 -- 1s; at genus 32 none, although that number is given. Assumes nothing.
 use Prim.Native.Nat.{ℕ, _+_, _^_, _≤_, _<_}
-use mathlib.Core.Path.{_≡_, refl, sym, ap, _∙_}
-use mathlib.Core.Bool.{Bool, true, false, _&&_, and-eq-true-iff}
+use mathlib.Core.Path.{_≡_, sym, ap, _∙_}
+use mathlib.Core.Bool.{_&&_, and-eq-true-iff}
 use mathlib.Core.List.{[]}
 use native.Mathlib.Omega.{arith}
 use lib.Dec.{leb}
@@ -11,11 +11,11 @@ use borrow.Author.Tests.{leb-true, le-leb}
 use Rattle.words.specs.Lists.{run}
 use Rattle.words.specs.Words.{genus, conductor, childWord}
 use Rattle.words.specs.Elements.{multiplicity, generator, rightGenerators}
-use Rattle.words.specs.Answers.{refused, given, isGiven, ask, Accepted}
+use Rattle.words.specs.Answers.{refused, given, isGiven, Accepted}
 use Rattle.words.proofs.Lists.{mem-run, keep-mem, mem-keep, ordered-run, ordered-keep, ordered-unique}
 use Rattle.words.proofs.Kept.{keep-none}
 use Rattle.words.proofs.Elements.{generator-below, right-generators-mem, mem-right-generators, right-generators-ordered}
-use Rattle.words.proofs.Answers.{asked}
+use Rattle.words.proofs.Answers.{last-yes, asked}
 use Rattle.tables.specs.Seeds.{firstRowOnes, seedTable}
 use Rattle.tables.specs.Answers.{tableOf, childOf, childElements}
 use Rattle.tables.proofs.FirstRow.{first-row-ones}
@@ -25,11 +25,7 @@ module _ (w : ℕ) (h : Accepted w) where
   module _ (few : genus w ≤ 31) where
     -- up to genus 31 a word is given just at the generators not below the conductor
     given-at : (e : ℕ) → isGiven (childOf w e) ≡ (leb (conductor w) e && generator w e)
-    given-at e = ap isGiven (child-asked w e h few) ∙ by-question (leb (conductor w) e && generator w e)
-      where
-        by-question : (b : Bool) → isGiven (ask b (refused 5) (given (childWord w e))) ≡ b
-        by-question true = refl
-        by-question false = refl
+    given-at e = ap isGiven (child-asked w e h few) ∙ last-yes 5 (childWord w e) (leb (conductor w) e && generator w e)
 
     module _ (fits : w < 2 ^ 64) (n : ℕ) (high : conductor w + multiplicity w ≤ n) where
       -- among the elements below n, where n is at least the conductor plus the multiplicity: 2 ^ 64 is, below which every argument of the call

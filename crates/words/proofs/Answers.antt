@@ -1,4 +1,4 @@
--- That the number of a refusal tells the refusal, how an answer tells which of three questions was answered no, which words are accepted,
+-- That the number of a refusal tells the refusal, how an answer tells which questions were answered yes and no, which words are accepted,
 -- what a look at a word tells a caller, and what a call that lists numbers of a word does. Assumes nothing.
 use Prim.Native.Nat.{ℕ, _-_, _^_, _≤_, _<_}
 use mathlib.Core.Path.{_≡_, refl, sym, _∙_, ap, subst}
@@ -12,7 +12,7 @@ use borrow.Author.Tests.{leb-true, le-leb, lt-leb}
 use Rattle.words.specs.Lists.{fronted}
 use Rattle.words.specs.Sets.{Set, ClosedUnderAddition}
 use Rattle.words.specs.Words.{setOf, genus, closed}
-use Rattle.words.specs.Answers.{Answer, Accepted, refused, given, numberOf, ask, askWord, reportOf, Tells, lookOf, ListAnswer, unchanged, filled, listedInto, giving}
+use Rattle.words.specs.Answers.{Answer, Accepted, refused, given, isGiven, numberOf, ask, askWord, reportOf, Tells, lookOf, ListAnswer, unchanged, filled, listedInto, giving}
 use Rattle.words.specs.declared.Refusal.{Refusal}
 use Rattle.words.specs.declared.Refusal.the-variants.{TooManyGaps, NotClosed, GenusTooLarge, WalkOutOfOrder, NotAGenerator, ListTooShort, ZeroGenerator, CommonDivisor, TooManyGapsGenerated, MalformedInput, ZeroCoordinate, CoordinateSumTooLarge, FailedInequality, EditorOutOfOrder, EditorFull, ByteNotHeld}
 use Rattle.words.specs.declared.Report.{Report}
@@ -76,7 +76,7 @@ number-range EditorOutOfOrder = omega arith
 number-range EditorFull = omega arith
 number-range ByteNotHeld = omega arith
 
--- ---- three questions
+-- ---- questions
 
 -- which of three questions, with rising numbers, are answered yes and no for which answer
 module _ {A : Type 0} (a b c : ℕ) (low : a < b) (high : b < c) (value : A) where
@@ -118,6 +118,11 @@ module _ {A : Type 0} (a b c : ℕ) (low : a < b) (high : b < c) (value : A) whe
   all-yes v true false r e = let z : _≡_ {A = ℕ} 0 1 = cc in absurd (omega arith)
   all-yes v true true false e = let z : _≡_ {A = ℕ} 0 1 = cc in absurd (omega arith)
   all-yes v true true true e = (refl, refl, refl, cc)
+
+-- after the last question a value is given just where it is answered yes
+pub last-yes : {A : Type 0} (n : ℕ) (value : A) (q : Bool) → isGiven (ask q (refused n) (given value)) ≡ q
+last-yes n value true = refl
+last-yes n value false = refl
 
 -- ---- accepted words
 

@@ -10,12 +10,12 @@ use Rattle.words.specs.Lists.{fronted}
 use Rattle.words.specs.Positions.{positions}
 use Rattle.words.specs.Answers.{giving}
 use Rattle.tables.specs.Nodes.{firstRow}
-use Rattle.tables.proofs.Levels.{node-accepted, node-conductor}
+use Rattle.tables.proofs.Levels.{node-accepted, node-conductor, node-offsets}
 use Rattle.generators.specs.Generators.{minimalGenerators, generatorsOf}
 use Rattle.words.proofs.Lists.{fronted-length, fronted-twice}
 use Rattle.words.proofs.StandingBits.{positions-le}
 use Rattle.words.proofs.Answers.{no-room, room}
-use Rattle.generators.proofs.LowGenerators.{conductor-small, row-length, generators-listed, generators-length}
+use Rattle.generators.proofs.LowGenerators.{conductor-small, generators-listed, generators-length}
 use Rattle.generators.proofs.generators_of.Statement.{statement}
 use Rattle.generators.proofs.generators_of.Tie as tie
 
@@ -40,7 +40,7 @@ add-count c =
     let at-low = c .before .before in
     let low : ℕ = at-low .low-generators .result in
     let n = at-low .before .before .args .n in
-    omega (arith, c .before .standing-bits .ensures, positions-le low, c .generators .ensures, row-length n (at-low .before .before .pre), positions-le (firstRow n))
+    omega (arith, c .before .standing-bits .ensures, positions-le low, c .generators .ensures, node-offsets 0 n (at-low .before .before .pre), positions-le (firstRow n))
 
 returns : tie.Need-returns
 unfolding generatorsOf
@@ -65,7 +65,7 @@ write-bits-requires-2 c κs =
     let fits = at-first .before .before .if1 .left in
     let first-count = at-count .before .standing-bits .ensures in
     let second-count = at-count .generators .ensures in
-    let row-count = ap (λ (b : ℕ). length (positions b)) (c .before .first-row .ensures) ∙ row-length n (start .pre) in
+    let row-count = ap (λ (b : ℕ). length (positions b)) (c .before .first-row .ensures) ∙ node-offsets 0 n (start .pre) in
     let sized = ap length list ∙ fronted-length (map (λ d. 1 + d) (positions low)) (start .args .out .now) (omega (arith, fits, first-count, length-map (positions low) (λ d. 1 + d))) in
     (omega (arith, conductor-small n (start .pre)), omega (arith, place, sized, fits, first-count, second-count, row-count))
 
@@ -94,7 +94,7 @@ returns-2 c =
     omega (arith, many, at-first .before .before .if1 .left, at-count .before .standing-bits .ensures, at-count .generators .ensures) in
     let l : List ℕ = map (λ d. 1 + d) (positions low) in
     let k : List ℕ = map (λ d. n .conductor + d) (positions row) in
-    let row-count = ap (λ (b : ℕ). length (positions b)) (at-row .first-row .ensures) ∙ row-length n (start .pre) in
+    let row-count = ap (λ (b : ℕ). length (positions b)) (at-row .first-row .ensures) ∙ node-offsets 0 n (start .pre) in
     let number : at-second .write-bits2 .result ≡ length (minimalGenerators w) = omega (arith, end, place, row-count, many) in
     ap₂ giving
     number
