@@ -1,5 +1,5 @@
--- Words and nodes with levels of the tree below them, up to genus 32: what private functions of `tables`, `walk`, `generators` and `search`
--- require. Assumes nothing: these are definitions.
+-- Words and nodes with levels of the tree below them, up to genus 32: what private functions of `tables`, `walk`, `generators`, `search` and
+-- `census` require. Assumes nothing: these are definitions.
 use Prim.Native.Nat.{ℕ, _+_, _^_, _≤_, _<_}
 use mathlib.Core.Path.{_≡_}
 use mathlib.Core.Bool.{true}

@@ -1,17 +1,16 @@
 -- How many leaves there are below a word, and below some children of it: a number of 64 bits. Assumes nothing.
 use Prim.Native.Nat.{ℕ, suc, _+_, _-_, _^_, _≤_, _<_}
-use mathlib.Core.Path.{_≡_, refl, _∙_, subst}
-use mathlib.Core.List.{List, [], _∷_, List·Memᴰ}
+use mathlib.Core.Path.{_≡_, ap, _∙_, subst}
+use mathlib.Core.List.{List, List·Memᴰ}
 use native.Mathlib.Omega.{arith}
-use lib.ListN.{length}
+use lib.ListN.{length, length-map}
 use lib.Pow.{pow-mono}
-use Rattle.words.specs.Lists.{sumOver}
 use Rattle.words.specs.Words.{genus, conductor, childWord}
 use Rattle.words.specs.Positions.{positions}
 use Rattle.words.specs.Elements.{rightGenerators}
 use Rattle.words.specs.GenusList.{descendantCount}
 use Rattle.words.specs.Tree.{leaves}
-use Rattle.words.proofs.Lists.{length-joined, sum-of-powers}
+use Rattle.words.proofs.Lists.{joined-each, length-joined, sum-of-powers}
 use Rattle.words.proofs.StandingBits.{positions-ordered}
 use Rattle.words.proofs.Elements.{conductor-pos}
 use Rattle.words.proofs.Tree.{count-bound}
@@ -22,12 +21,8 @@ use Rattle.tables.proofs.Branches.{child-of, child-levels}
 
 -- one level below a word there is one for each generator not below the conductor
 pub length-children : (w : ℕ) → length (leaves 1 w) ≡ length (rightGenerators w)
-unfolding leaves sumOver
-length-children w = length-joined _ (rightGenerators w) ∙ each (rightGenerators w)
-  where
-    each : (l : List ℕ) → sumOver (λ x. length (childWord w x ∷ [])) l ≡ length l
-    each [] = refl
-    each (x ∷ l) = omega (arith, each l)
+unfolding leaves
+length-children w = ap length (joined-each (childWord w) (rightGenerators w)) ∙ length-map (rightGenerators w) (childWord w)
 
 -- with c the conductor of a word, at most 2 ^ (64 - c) leaves are below it
 pub leaves-bound : (r w : ℕ) → Levels r w → length (leaves r w) ≤ 2 ^ (64 - conductor w)

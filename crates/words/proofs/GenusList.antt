@@ -147,15 +147,25 @@ genus-list-all g h = record {
   once = genus-list-once g;
 }
 
+-- a list of all sets with P has the word of each
+all-mem : {P : Set → Type 0} {l : List ℕ} → AllOf P l → (w : ℕ) → w < 2 ^ 64 → P (setOf w) → List·Memᴰ w l
+all-mem a w fits h =
+    let (v, same, n) = a .all (setOf w) h in
+    Memᴰ·cast (same-set w v fits (a .fits v n) (λ x. sym (same x))) n
+
+-- so that there is one such list
+pub all-unique : (P : Set → Type 0) (k l : List ℕ) → AllOf P k → AllOf P l → k ≡ l
+all-unique P k l a b =
+    ordered-unique Earlier earlier-asym k l (a .ordered) (b .ordered)
+    (λ w m. all-mem b w (a .fits w m) (a .only w m))
+    (λ w m. all-mem a w (b .fits w m) (b .only w m))
+
 -- and any list of all semigroups of the genus is the genus list
 pub genus-list-unique : (g : ℕ) (l : List ℕ) → AllOfGenus g l → l ≡ genusList g
 genus-list-unique g l a =
     ordered-unique Earlier earlier-asym l (genusList g) (a .ordered) (genus-list-ordered g)
     (λ w m. let (s, o) = a .only w m in genus-list-word g w (a .fits w m) s o)
-    (λ w m.
-    let (fits, s, o) = genus-list-sound g m in
-    let (v, same, n) = a .all (setOf w) (s, o) in
-    Memᴰ·cast (same-set w v fits (a .fits v n) (λ x. sym (same x))) n)
+    (λ w m. let (fits, s, o) = genus-list-sound g m in all-mem a w fits (s, o))
 
 -- those of its words that pass a test of what P says are the list of all that have P too
 pub kept-all : (g : ℕ) → g ≤ 32 → (P : Set → Type 0) (p : ℕ → Bool) → ((w : ℕ) → w < 2 ^ 64 → (p w ≡ true) ↔ P (setOf w))

@@ -3,17 +3,19 @@
 use Prim.Native.Nat.{ℕ, zero, suc, _+_, _-_, _*_, _^_, _≤_, _<_, min}
 use mathlib.Core.Path.{_≡_, refl, sym, _∙_, ap, ap₂, subst}
 use mathlib.Core.Logic.{_⊎_, inl, inr, _↔_, ⊎-elim}
-use mathlib.Core.Bool.{Bool, true, false, _&&_, and-assoc, and-eq-true-iff, not, _||_, and-true, Bool·not-not}
+use mathlib.Core.Bool.{Bool, true, false, cond, _&&_, and-assoc, and-eq-true-iff, not, _||_, and-true, Bool·not-not}
 use mathlib.Core.List.{List, [], _∷_, _++_, append-assoc, map, map-append, List·Memᴰ, List·Memᴰ·head, List·Memᴰ·tail, List·Memᴰ·not-nil, List·Memᴰ·cases-cons, Memᴰ·cast, Memᴰ·append-left, Memᴰ·append-right, List·Memᴰ·append-cases, Memᴰ·of-map, append-nil}
 use native.Mathlib.Omega.{arith}
-use native.Mathlib.Nat.{add-zero, zero-add, suc-add, add-suc, eq-or-lt-of-le, le-of-eq, le-trans, le-of-lt, le-dest, pow-suc, suc-mul}
+use native.Mathlib.Nat.{add-zero, zero-add, suc-add, add-suc, eq-or-lt-of-le, le-of-eq, le-trans, le-of-lt, le-dest, pow-suc, suc-mul, mul-zero, mul-suc}
 use native.Mathlib.Numerals.{add-one}
+use native.Mathlib.Decide.{ℕ-discrete}
 use lib.Dec.{eqb, ltb}
-use lib.ListN.{length, getD, take, drop, set, replicate, length-append, length-take, length-drop, length-replicate, replicate-append-replicate, take-append-drop, drop-of-length-le}
+use lib.ListN.{length, getD, take, drop, set, replicate, length-append, length-take, length-drop, length-replicate, replicate-append-replicate, take-append-drop, drop-of-length-le, List·getD-append}
 use lib.Pow.{pow-mono}
-use lib.Seq.{take-append-seam, drop-append-seam, set-append-seam, drop-cons, drop-append-add, drop-drop, drop-at, take-suc, sets}
+use lib.Seq.{take-append-seam, drop-append-seam, set-append-seam, drop-cons, drop-append-add, drop-drop, drop-at, take-suc, sets, getD-append-add, getD-drop}
 use borrow.Author.Tests.{eq-eqb, ne-eqb, eqb-true, ltb-true, ltb-false, lt-ltb}
 use Rattle.words.specs.Lists.{none, run, keep, keepIf, every, joined, sumOver, lastOr, begins, fronted, onFrom, Ordered}
+use Rattle.words.specs.Words.{digit}
 use Rattle.words.proofs.Booleans.{not-both, is-true, is-false, true-together, by-value, not-and}
 
 -- ---- run
@@ -288,6 +290,22 @@ module _ {A B : Type 0} where
   unfolding joined
   joined-map f h [] = refl
   joined-map f h (x ∷ l) = ap (λ (t : List B). f (h x) ++ t) (joined-map f h l)
+
+  -- one of each, joined, is a map
+  pub joined-each : (f : A → B) (l : List A) → joined (λ x. f x ∷ []) l ≡ map f l
+  unfolding joined
+  joined-each f [] = refl
+  joined-each f (x ∷ l) = ap (λ (t : List B). f x ∷ t) (joined-each f l)
+
+  -- f of each that is joined
+  pub map-joined : {C : Type 0} (f : A → B) (h : C → List A) (l : List C) → map f (joined h l) ≡ joined (λ x. map f (h x)) l
+  unfolding joined
+  map-joined f h [] = refl
+  map-joined f h (x ∷ l) = map-append f (h x) (joined h l) ∙ ap (λ (t : List B). map f (h x) ++ t) (map-joined f h l)
+
+  pub map-same : (f h : A → B) (l : List A) → ((x : A) → List·Memᴰ x l → f x ≡ h x) → map f l ≡ map h l
+  map-same f h [] e = refl
+  map-same f h (x ∷ l) e = ap₂ _∷_ (e x (List·Memᴰ·head refl)) (map-same f h l (λ y m. e y (List·Memᴰ·tail m)))
 
   pub length-joined : (f : A → List B) (l : List A) → length (joined f l) ≡ sumOver (λ x. length (f x)) l
   unfolding joined sumOver
@@ -605,6 +623,46 @@ module _ {A : Type 0} where
   sum-plus f h [] = refl
   sum-plus f h (x ∷ l) = omega (arith, sum-plus f h l)
 
+  -- a sum of one for each
+  pub sum-of-ones : (l : List A) → sumOver (λ x. 1) l ≡ length l
+  unfolding sumOver
+  sum-of-ones [] = refl
+  sum-of-ones (x ∷ l) = omega (arith, sum-of-ones l)
+
+  -- a sum of numbers that are at most n
+  pub sum-at-most : (f : A → ℕ) (n : ℕ) (l : List A) → ((x : A) → List·Memᴰ x l → f x ≤ n) → sumOver f l ≤ length l * n
+  unfolding sumOver
+  sum-at-most f n [] h = omega arith
+  sum-at-most f n (x ∷ l) h = omega (arith, h x (List·Memᴰ·head refl), sum-at-most f n l (λ y m. h y (List·Memᴰ·tail m)))
+
+  -- a sum over those that pass a test
+  pub sum-kept : (f : A → ℕ) (p : A → Bool) (l : List A) → sumOver f (keep p l) ≡ sumOver (λ x. digit (p x) * f x) l
+  unfolding sumOver keep keepIf digit
+  sum-kept f p [] = refl
+  sum-kept f p (x ∷ l) = by-value (p x) (λ e. rw e (omega (arith, sum-kept f p l))) (λ e. rw e (omega (arith, sum-kept f p l)))
+
+-- a sum in which one number of a run counts, and the others don't
+sum-at : (f : ℕ → ℕ) (j a n : ℕ) → a ≤ j → j < a + n → sumOver (λ i. cond (eqb j i) (f i) 0) (run a n) ≡ f j
+unfolding sumOver run
+sum-at f j a zero low high = absurd (omega arith)
+sum-at f j a (suc n) low high = elim (ℕ-discrete j a) [
+  | yes e ↦
+      let others = sum-none (λ i. cond (eqb j i) (f i) 0) (run (suc a) n) (λ i m. rw (ne-eqb j i (λ d. omega (arith, run-mem (suc a) n m)))) in
+      rw (eq-eqb j a e) (omega (arith, others, ap f e))
+  | no d ↦ rw (ne-eqb j a d) (omega (arith, sum-at f j (suc a) n (omega arith) (omega arith)))
+]
+
+-- each of a list has a key below n: to sum f of the keys, each key below n is taken as often as the list has it
+pub sum-by-key : {A : Type 0} (key : A → ℕ) (f : ℕ → ℕ) (n : ℕ) (l : List A) → ((x : A) → List·Memᴰ x l → key x < n)
+    → sumOver (λ i. f i * length (keep (λ x. eqb (key x) i) l)) (run 0 n) ≡ sumOver (λ x. f (key x)) l
+unfolding sumOver keep keepIf
+sum-by-key key f n [] h = sum-none _ (run 0 n) (λ i m. mul-zero (f i))
+sum-by-key key f n (x ∷ l) h =
+    sum-same _ (λ i. cond (eqb (key x) i) (f i) 0 + f i * length (keep (λ y. eqb (key y) i) l)) (run 0 n)
+    (λ i m. by-value (eqb (key x) i) (λ e. rw e (omega (arith, mul-suc (f i) (length (keep (λ y. eqb (key y) i) l))))) (λ e. rw e (omega arith)))
+    ∙ sum-plus (λ i. cond (eqb (key x) i) (f i) 0) (λ i. f i * length (keep (λ y. eqb (key y) i) l)) (run 0 n)
+    ∙ ap₂ _+_ (sum-at f (key x) 0 n (omega arith) (omega (arith, h x (List·Memᴰ·head refl)))) (sum-by-key key f n l (λ y m. h y (List·Memᴰ·tail m)))
+
 -- a sum along numbers one higher
 pub sum-shift : (f : ℕ → ℕ) (a n : ℕ) → sumOver f (run (suc a) n) ≡ sumOver (λ i. f (suc i)) (run a n)
 unfolding sumOver run
@@ -673,6 +731,19 @@ module _ (l out : List ℕ) where
   pub fronted-length : length l ≤ length out → length (fronted l out) ≡ length out
   unfolding fronted
   fronted-length h = simp (length-append, length-drop) (omega arith)
+
+  -- the first places have the numbers
+  pub fronted-at : (i : ℕ) → i < length l → getD (fronted l out) i 0 ≡ getD l i 0
+  unfolding fronted
+  fronted-at i h = List·getD-append l (drop (length l) out) 0 i h
+
+  -- and the others what they had
+  pub fronted-beyond : (i : ℕ) → length l ≤ i → getD (fronted l out) i 0 ≡ getD out i 0
+  unfolding fronted
+  fronted-beyond i h =
+      let (n, e) = le-dest h in
+      ap (λ (k : ℕ). getD (l ++ drop (length l) out) k 0) (sym e) ∙ getD-append-add l (drop (length l) out) n 0 ∙ getD-drop (length l) out n 0
+      ∙ ap (λ (k : ℕ). getD out k 0) e
 
   -- one number more
   pub fronted-set : (x : ℕ) → length l < length out → set (fronted l out) (length l) x ≡ fronted (l ++ x ∷ []) out
