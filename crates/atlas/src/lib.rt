@@ -10,6 +10,7 @@ ghost use Rattle.walk.specs.Walks.{freshOf, freshInOf, startOf, startInOf, coun
 ghost use Rattle.generators.specs.Generators.{generatorsOf, wordFromOf};
 ghost use Rattle.elementary.specs.Answers.{elementaryOf};
 ghost use Rattle.kunz.specs.Coordinates.{coordinatesOf, wordFromCoordinatesOf};
+ghost use Rattle.census.specs.Census.{censusOf};
 ghost use Rattle.search.specs.Wanted.{findOf};
 ghost use Rattle.editor.specs.Changes.{addition, removal};
 ghost use Rattle.editor.specs.States.{said, stateOf, told};
@@ -474,6 +475,14 @@ pub extern "C" fn atlas_word_from_kunz(list: &[u8]) -> AtlasNumber
     ensures { λ r. ⌜ r ≡ numberIn (wordFromCoordinatesOf (now (list .entry))) ⌝ }
 {
     number_of(kunz::word_from_coordinates(list))
+}
+
+// The census of a genus into a lent list, and the sum of all reported conductors. Questions 3, 6.
+#[no_mangle]
+pub extern "C" fn atlas_census(genus: u64, out: &mut [u64]) -> AtlasNumber
+    ensures { λ r. ⌜ (r ≡ numberIn (censusOf genus (now (out .entry)) .answer)) × (now (out .exit) ≡ censusOf genus (now (out .entry)) .list) ⌝ }
+{
+    number_of(census::census(genus, out))
 }
 
 // A list of generators that changes, at the start: no byte is held. No question.
