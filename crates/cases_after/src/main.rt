@@ -1,6 +1,6 @@
 // Runs further cases of the papers on what comes after the walk: generators both ways, joined lists of them, elementary counts, Kunz
-// coordinates both ways, a list of generators that changes, the requests of the listing program and the listing of genus 0. What it prints
-// is held to the stored file, which was computed apart from the plain definitions.
+// coordinates both ways, censuses, a list of generators that changes, the requests of the listing program and the listing of genus 0. What it
+// prints is held to the stored file, which was computed apart from the plain definitions.
 use editor::ChangeAnswer;
 use editor::Changed;
 use editor::Editor;
@@ -95,6 +95,39 @@ fn show_word_from_coordinates(list: &[u8]) {
     text(b"word from coordinates");
     bytes(list);
     answer(kunz::word_from_coordinates(list));
+}
+
+// The places of a list that are not 0, each with its number.
+fn places(list: &[u64]) {
+    for i in 0..list.len() {
+        if list[i] != 0 {
+            field(i as u64);
+            field(list[i]);
+        }
+    }
+}
+
+// The census in a lent list, and then the places that are not 0.
+fn show_census_in(genus: u64, list: &mut [u64]) {
+    text(b"census of");
+    field(genus);
+    text(b" in");
+    field(list.len() as u64);
+    let a = census::census(genus, list);
+    if let NumberAnswer::Given(_) = a {
+        text(b" has");
+        places(list);
+    }
+    answer(a);
+}
+
+// The same with so many places, at most 2,212, that are lent with a 7 each.
+fn show_census(genus: u64, size: usize) {
+    let mut list = [7u64; 2212];
+    if 2212 < size {
+        return;
+    }
+    show_census_in(genus, &mut list[..size]);
 }
 
 // What a change gives: its refusal where it is refused, the bytes that are held then, and the kept answer.
@@ -308,6 +341,17 @@ fn wrong_states() {
     );
 }
 
+fn censuses() {
+    show_census(0, 2210);
+    show_census(1, 2210);
+    show_census(3, 2212);
+    show_census(6, 2211);
+    show_census(32, 2209);
+    show_census(33, 2210);
+    show_census(33, 2209);
+    show_census(18446744073709551615, 0);
+}
+
 fn requests() {
     show_request(b"3\n");
     show_request(b"03\n");
@@ -337,6 +381,7 @@ fn main() {
     coordinates_out();
     coordinates_back();
     refused_coordinates();
+    censuses();
     short_history();
     long_history();
     wrong_states();
