@@ -99,9 +99,6 @@ module _ (t : ℕ) where
         subst (λ (k : ℕ). RoomFor (length (leaves k w)) (start .args .out .now)) left-is (start .pre .1 .1),
       )
 
-  tally-same-length : tally-lts.Need-same-length (tally-claims t) (tally-at t) tally.Post tally-Inv-loop tally-μ-loop
-  tally-same-length c = search needs
-
   tally-returns : tally-lts.Need-returns (tally-claims t) (tally-at t) tally.Post tally-Inv-loop tally-μ-loop
   unfolding leaves tallied
   tally-returns c =
@@ -122,9 +119,6 @@ module _ (t : ℕ) where
         ),
       )
 
-  tally-same-length-2 : tally-lts.Need-same-length-2 (tally-claims t) (tally-at t) tally.Post tally-Inv-loop tally-μ-loop
-  tally-same-length-2 c = search needs
-
   tally-returns-2 : tally-lts.Need-returns-2 (tally-claims t) (tally-at t) tally.Post tally-Inv-loop tally-μ-loop
   tally-returns-2 c =
       let start = c .before .before .before .before .before .before .before .before .before .before in
@@ -140,9 +134,6 @@ module _ (t : ℕ) where
         subst (λ (k : ℕ). RoomFor k (start .args .out .now)) (ap length (row c .all) ∙ sym (length-map (branches (start .args .left - 1) (start .args .n .word) (c .first-row .result)) censusPlace)) (start .pre .1 .1),
         refl,
       )
-
-  tally-sub-tally : tally-lts.Need-sub-tally (tally-claims t) (tally-at t) tally.Post tally-Inv-loop tally-μ-loop
-  tally-sub-tally c = omega arith
 
   tally-tally-requires : tally-lts.Need-tally-requires (tally-claims t) (tally-at t) tally.Post tally-Inv-loop tally-μ-loop
   tally-tally-requires c κs =
@@ -188,17 +179,17 @@ pub +tally-spec : {M : Type 1} → statement M
     tally-μ-loop
     (λ c κs. tt)
     (tally-add-one-requires t)
-    (tally-same-length t)
+    (λ c. search needs)
     (tally-returns t)
     (λ c κs. tt)
     (tally-tally-grandchildren-requires t)
-    (tally-same-length-2 t)
+    (λ c. search needs)
     (tally-returns-2 t)
     (λ c κs. tt)
     (tally-loop-holds t)
     (λ c κs. tt)
     (λ c κs. tt)
-    (tally-sub-tally t)
+    (λ c. omega arith)
     (tally-tally-requires t)
     (tally-loop-less t)
     (tally-loop-again t)

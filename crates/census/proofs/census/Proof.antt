@@ -1,8 +1,9 @@
 -- `census::census` meets its contract. Assumes nothing.
-use Prim.Native.Nat.{ℕ}
-use mathlib.Core.Path.{_≡_, sym, ap, ap₂, _∙_, subst}
+use Prim.Native.Nat.{ℕ, _≤_}
+use mathlib.Core.Path.{_≡_, sym, ap, ap₂, _∙_, subst, subst₂}
 use mathlib.Core.List.{List, map}
 use native.Mathlib.Omega.{arith}
+use lib.ListN.{length}
 use borrow.Author.Needs.{needs}
 use Rattle.words.specs.Lists.{fronted}
 use Rattle.words.specs.Answers.{giving}
@@ -15,7 +16,7 @@ use Rattle.tables.specs.Levels.{NodeWithLevels}
 use Rattle.tables.specs.declared.Node.{Node}
 use Rattle.tables.proofs.Levels.{root-levels}
 use Rattle.census.specs.Census.{censusPlaces}
-use Rattle.census.specs.Private.{censusPlace, tallied, conductorsIn}
+use Rattle.census.specs.Private.{censusPlace, tallied, RoomFor, conductorsIn}
 use Rattle.census.proofs.Places.{places-length, census-tallied}
 use Rattle.census.proofs.Totals.{conductors-of-places, conductor-sum-fits, room-for-all}
 use Rattle.census.proofs.Theorems.{refused-genus, refused-list, census-given}
@@ -28,51 +29,55 @@ returns c = sym (refused-genus _ _ (c .if1 .taken))
 returns-2 : tie.Need-returns-2
 returns-2 c = sym (refused-list _ _ (c .before .if1 .left) (c .if2 .taken))
 
--- the words below the root are those of the genus list
-words-below : (c : tie.After-root) → leaves (c .before .before .before .before .before .before .before .before .args .genus) (c .root .result .word) ≡ genusList (c .before .before .before .before .before .before .before .before .args .genus)
-unfolding nodeOf
-words-below c =
-    let start = c .before .before .before .before .before .before .before .before in
-    ap (λ (n : Node). leaves (start .args .genus) (n .word)) (c .root .ensures) ∙ sym (genus-list-leaves _ (c .before .before .before .before .before .before .if1 .left))
+-- where the root is made, neither the genus nor the list is refused
+module _ (c : tie.After-root) where
+  abbrev g : ℕ
+  g = c .before .before .before .before .before .before .before .before .args .genus
+
+  abbrev lent : List ℕ
+  lent = c .before .before .before .before .before .before .before .before .args .out .now
+
+  few : g ≤ 32
+  few = c .before .before .before .before .before .before .if1 .left
+
+  room : 2210 ≤ length lent
+  room = c .before .before .before .before .before .if2 .left
+
+  -- the words below the root are those of the genus list
+  words-below : leaves g (c .root .result .word) ≡ genusList g
+  unfolding nodeOf
+  words-below = ap (λ (n : Node). leaves g (n .word)) (c .root .ensures) ∙ sym (genus-list-leaves g few)
 
 tally-requires : tie.Need-tally-requires
 tally-requires c κs =
-    let at = c .before in
-    let start = at .before .before .before .before .before .before .before .before in
-    let few = at .before .before .before .before .before .before .if1 .left in (
-      subst (NodeWithLevels _) (sym (at .root .ensures)) (root-levels _ few),
-      rw (words-below at, at .before .before .before .clear-places .ensures) (room-for-all _ few (start .args .out .now) (at .before .before .before .before .before .if2 .left)),
+    let at = c .before in (
+      subst (NodeWithLevels (g at)) (sym (at .root .ensures)) (root-levels (g at) (few at)),
+      subst₂ (λ (l o : List ℕ). RoomFor (length l) o) (sym (words-below at)) (sym (at .before .before .before .clear-places .ensures)) (room-for-all (g at) (few at) (lent at) (room at)),
     )
 
 -- the list after the words are counted
-counted : (c : tie.After-tally) → let start = c .before .before .before .before .before .before .before .before .before .before in
-    c .tally .last .1 .1 .0 ≡ fronted (censusPlaces (start .args .genus)) (start .args .out .now)
+counted : (c : tie.After-tally) → let at = c .before .before in c .tally .last .1 .1 .0 ≡ fronted (censusPlaces (g at)) (lent at)
 counted c =
     let at = c .before .before in
-    let start = at .before .before .before .before .before .before .before .before in
     c .tally .ensures
     ∙ ap₂ (λ (l o : List ℕ). tallied (map censusPlace l) o) (words-below at) (at .before .before .before .clear-places .ensures)
-    ∙ census-tallied _ (at .before .before .before .before .before .before .if1 .left) (start .args .out .now) (at .before .before .before .before .before .if2 .left)
+    ∙ census-tallied (g at) (few at) (lent at) (room at)
 
 sum-of-conductors-requires : tie.Need-sum-of-conductors-requires
 sum-of-conductors-requires c κs =
-    let at = c .before .before .before in
-    let root = at .before .before in
-    let start = root .before .before .before .before .before .before .before .before in
-    let few = root .before .before .before .before .before .before .if1 .left in
-    rw (counted at) (
-      omega (arith, fronted-length (censusPlaces (start .args .genus)) (start .args .out .now) (omega (arith, places-length (start .args .genus), root .before .before .before .before .before .if2 .left)), root .before .before .before .before .before .if2 .left),
-      omega (arith, conductors-of-places _ few (start .args .out .now), conductor-sum-fits _ few),
+    let done = c .before .before .before in
+    let at = done .before .before in
+    rw (counted done) (
+      omega (arith, fronted-length (censusPlaces (g at)) (lent at) (omega (arith, places-length (g at), room at)), room at),
+      omega (arith, conductors-of-places (g at) (few at) (lent at), conductor-sum-fits (g at) (few at)),
     )
 
 returns-3 : tie.Need-returns-3
 returns-3 c =
-    let at = c .before .before .before .before in
-    let root = at .before .before in
-    let start = root .before .before .before .before .before .before .before .before in
-    let few = root .before .before .before .before .before .before .if1 .left in
-    ap₂ giving (c .sum-of-conductors .ensures ∙ ap conductorsIn (counted at) ∙ conductors-of-places _ few (start .args .out .now)) (counted at)
-    ∙ sym (census-given _ _ few (root .before .before .before .before .before .if2 .left))
+    let done = c .before .before .before .before in
+    let at = done .before .before in
+    ap₂ giving (c .sum-of-conductors .ensures ∙ ap conductorsIn (counted done) ∙ conductors-of-places (g at) (few at) (lent at)) (counted done)
+    ∙ sym (census-given (g at) (lent at) (few at) (room at))
 
 pub census-spec : {M : Type 1} → statement M
 census-spec =
