@@ -340,6 +340,61 @@ static void searches(void) {
   CHECK(found_is(atlas_find(33, 5, 5), 3, false, 0));
 }
 
+/* The places of a census, and three more. */
+enum { LENT = ATLAS_CENSUS_PLACES + 3 };
+
+/* The census of a genus into the first `length` places of a list that is lent full of 7s. */
+static atlas_number census_into(uint64_t *list, uint64_t genus, size_t length) {
+  for (size_t i = 0; i < LENT; i++) list[i] = 7;
+  return atlas_census(genus, list, length);
+}
+
+/* Is the census refused with this number, and is the list as it was lent? */
+static bool census_refused(uint64_t genus, size_t length, uint64_t refused) {
+  uint64_t list[LENT];
+  bool as_lent = number_is(census_into(list, genus, length), refused, 0);
+  for (size_t i = 0; i < LENT; i++) as_lent = as_lent && list[i] == 7;
+  return as_lent;
+}
+
+/* Genus 3 and 0, every place: where there are no semigroups the number is 0, and the three places after the census are as they were lent. */
+static void small_censuses(void) {
+  const uint64_t of_3[LENT] = {[65 * 2 + 6] = 1, [65 * 3 + 5] = 1, [65 * 3 + 6] = 1, [65 * 4 + 4] = 1, [2210] = 7, 7, 7};
+  const uint64_t of_0[LENT] = {[65 * 1 + 0] = 1, [2210] = 7, 7, 7};
+  uint64_t list[LENT];
+  CHECK(number_is(census_into(list, 3, LENT), 0, 21) && memcmp(list, of_3, sizeof list) == 0);
+  CHECK(number_is(census_into(list, 0, LENT), 0, 0) && memcmp(list, of_0, sizeof list) == 0);
+}
+
+/* The genus is asked about before the length. */
+static void refused_censuses(void) {
+  CHECK(census_refused(33, LENT, 3));
+  CHECK(census_refused(33, 2209, 3));
+  CHECK(census_refused(33, 0, 3));
+  CHECK(census_refused(UINT64_MAX, LENT, 3));
+  CHECK(census_refused(32, 2209, 6));
+  CHECK(census_refused(0, 0, 6));
+}
+
+/* The numbers of one conductor added up, from a lowest multiplicity on. */
+static uint64_t with_conductor(const uint64_t *list, uint64_t c, uint64_t lowest) {
+  uint64_t sum = 0;
+  for (uint64_t m = lowest; m <= 33; m++) sum += list[65 * m + c];
+  return sum;
+}
+
+/* The numbers of genus 32 add up to the count, with a list of just so many places; those of genus 12 with c at most 2 m add up to the
+   elementary counts. */
+static void census_sums(void) {
+  uint64_t list[LENT], sum = 0;
+  CHECK(number_is(census_into(list, 32, ATLAS_CENSUS_PLACES), 0, 751523065));
+  for (uint64_t c = 0; c <= 64; c++) sum += with_conductor(list, c, 0);
+  CHECK(sum == 15195070 && number_is(atlas_count(0, 32), 0, sum));
+  CHECK(list[2210] == 7 && list[2211] == 7 && list[2212] == 7);
+  CHECK(census_into(list, 12, LENT).refused == 0);
+  for (uint64_t c = 1; c <= 64; c++) CHECK(number_is(atlas_elementary(c - 1, 12), 0, with_conductor(list, c, (c + 1) / 2)));
+}
+
 int main(void) {
   words();
   both_conventions();
@@ -359,6 +414,9 @@ int main(void) {
   wrong_states();
   coordinates();
   searches();
+  small_censuses();
+  refused_censuses();
+  census_sums();
   printf("calls: %u checks, %u failed\n", checks, failures);
   return failures != 0;
 }

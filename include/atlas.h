@@ -3,11 +3,11 @@
    A gap word has 64 bits: bit i stands when i + 1 is a gap, and every number above 64 belongs to the set. A word is accepted when it
    has at most 32 gaps and its set is closed under addition.
 
-   Two conventions meet at the word 0, the semigroup without gaps; for every other word they agree. What is reported, by atlas_look and in
-   the lines of the listing program, and the largest gap that atlas_find takes are what other algebra packages give: the conductor is the
-   least number from which on all belong to the set, 0 for the word 0, and the largest gap is one less, -1 there. Seed tables and children
-   are counted by the conductor of the seeds paper: the largest gap plus 1, and 1 for the word 0, whose seed table has one entry and whose
-   child is at 1. Below, "the conductor" is the paper's unless it is called reported.
+   Two conventions meet at the word 0, the semigroup without gaps; for every other word they agree. What is reported, by atlas_look, in a
+   census and in the lines of the listing program, and the largest gap that atlas_find takes are what other algebra packages give: the
+   conductor is the least number from which on all belong to the set, 0 for the word 0, and the largest gap is one less, -1 there. Seed
+   tables and children are counted by the conductor of the seeds paper: the largest gap plus 1, and 1 for the word 0, whose seed table has
+   one entry and whose child is at 1. Below, "the conductor" is the paper's unless it is called reported.
 
    No call asks anything of its arguments, and every call returns. In each answer `refused` comes first: 0 for an answer, otherwise the
    number of the refusal, and then all values are 0, no list is written, and a walk or a list that changes comes back as it was given. A
@@ -179,6 +179,15 @@ atlas_number atlas_word_from_kunz(const uint8_t *list, size_t length);
 
 /* The number of semigroups of a genus whose largest gap is `frobenius`, below twice the multiplicity. Refusal 3. */
 atlas_number atlas_elementary(uint64_t frobenius, uint64_t genus);
+
+/* A census has a place for each multiplicity from 0 to 33 and each reported conductor from 0 to 64. */
+#define ATLAS_CENSUS_PLACES 2210
+
+/* Writes the number of semigroups of a genus with multiplicity m and reported conductor c to place 65 m + c of `out`, for m from 0 to 33 and
+   c from 0 to 64, and gives the sum of the reported conductors of all semigroups of the genus. Where there are none the number is 0; places
+   after the 2,210 are untouched. All places together make atlas_count(0, genus); from genus 1 on, for each c from 1 to 64, those where c is at
+   most 2 m make atlas_elementary(c - 1, genus). Refusals 3, 6. */
+atlas_number atlas_census(uint64_t genus, uint64_t *out, size_t length);
 
 /* The word of the first semigroup of a genus in list order with this largest gap, which is -1 for the word 0, and this multiplicity; `found`
    is false where there is none. Refusal 3. */
