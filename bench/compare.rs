@@ -1,8 +1,9 @@
-//! Random calls of the atlas, valid and damaged, walks of all small windows, searches in all small genera and all short histories of a list
-//! of generators, against an implementation from the plain definitions: sets of numbers, sums of two elements, gap lists. It uses no bit tricks and no seed tables but those of
-//! definition 1.3. Searches in genus 19 and above are held to the lists of the atlas's own walk, and the grandchildren of all words of three
-//! genera, together, to the known numbers of semigroups two genera on. Prints the seed, the number of calls of each kind and the number of
-//! differences, which must be 0.
+//! Random calls of the atlas, valid and damaged, walks of all small windows, searches in all small genera, the census of every genus and all
+//! short histories of a list of generators, against an implementation from the plain definitions: sets of numbers, sums of two elements, gap
+//! lists. It uses no seed tables but those of definition 1.3, and no bit tricks but in the censuses of genus 19 and above, which are made by
+//! counts of leading and trailing bits. Searches and censuses in these genera are held to the lists of the atlas's own walk, the sums over each
+//! census to its count and its elementary counts, and the grandchildren of all words of three genera, together, to the known numbers of
+//! semigroups two genera on. Prints the seed, the number of calls of each kind and the number of differences, which must be 0.
 
 use std::collections::HashMap;
 
@@ -97,6 +98,7 @@ extern "C" {
     fn atlas_generators(word: u64, out: *mut u8, length: usize) -> Number;
     fn atlas_word_from(list: *const u8, length: usize) -> Number;
     fn atlas_elementary(frobenius: u64, genus: u64) -> Number;
+    fn atlas_census(genus: u64, out: *mut u64, length: usize) -> Number;
     fn atlas_kunz(word: u64, out: *mut u8, length: usize) -> Number;
     fn atlas_word_from_kunz(list: *const u8, length: usize) -> Number;
     fn atlas_find(genus: u64, largest_gap: i8, multiplicity: u8) -> Found;
@@ -455,6 +457,46 @@ fn not_sought(refused: u64) -> Found {
 /// What is found in a list by its first words.
 fn found_by(firsts: &Firsts, largest_gap: i8, multiplicity: u8) -> Found {
     found(firsts.get(&(largest_gap as i64, multiplicity as u64)).copied())
+}
+
+/// How many words of a list have each pair of a multiplicity and a reported conductor.
+type Tally = HashMap<(u64, u64), u64>;
+
+/// The multiplicity and the reported conductor.
+fn multiplicity_and_conductor(word: u64) -> (u64, u64) {
+    (multiplicity(word), reported_conductor(word))
+}
+
+/// The same by counts of bits, for long lists: the gaps below the multiplicity are trailing ones, and the largest gap is 64 less the leading
+/// zeros.
+fn counted_bits(word: u64) -> (u64, u64) {
+    let conductor = if word == 0 { 0 } else { 65 - word.leading_zeros() as u64 };
+    (word.trailing_ones() as u64 + 1, conductor)
+}
+
+/// The tally of a list, each word's pair by the given function.
+fn tally(list: &[u64], pair: fn(u64) -> (u64, u64)) -> Tally {
+    let mut tally = Tally::new();
+    for &w in list {
+        *tally.entry(pair(w)).or_insert(0) += 1;
+    }
+    tally
+}
+
+/// A census with the tally of the genus: the answer, and the lent list afterwards. Questions 3 and 6.
+fn census(genus: u64, tally: &Tally, mut lent: Vec<u64>) -> (Number, Vec<u64>) {
+    if genus > 32 {
+        return (refused(3), lent);
+    }
+    if lent.len() < 2210 {
+        return (refused(6), lent);
+    }
+    for m in 0..=33 {
+        for c in 0..=64 {
+            lent[65 * m + c] = tally.get(&(m as u64, c as u64)).copied().unwrap_or(0);
+        }
+    }
+    (given(tally.iter().map(|((_, c), number)| c * number).sum()), lent)
 }
 
 // ---- random numbers
@@ -1424,6 +1466,57 @@ fn finds(n: u64, r: &mut Random) -> Kind {
     kind
 }
 
+/// The first place where two lists of the same length differ, with what stands there.
+fn first_difference(ours: &[u64], plain: &[u64]) -> Option<(usize, u64, u64)> {
+    (0..plain.len()).find(|&p| ours[p] != plain[p]).map(|p| (p, ours[p], plain[p]))
+}
+
+/// A census into a list that is lent full of random numbers: the answer and the whole list are compared. Gives the list afterwards.
+fn one_census(genus: u64, tally: &Tally, length: usize, kind: &mut Kind, r: &mut Random) -> Vec<u64> {
+    let lent: Vec<u64> = (0..length).map(|_| r.next()).collect();
+    let mut ours = lent.clone();
+    let answer = unsafe { atlas_census(genus, ours.as_mut_ptr(), length) };
+    let (plain, list) = census(genus, tally, lent);
+    kind.same((answer, first_difference(&ours, &list)), (plain, None), &|| format!("{genus} {length}"));
+    ours
+}
+
+/// All places of a census make the count of the genus, and those of a conductor c from 1 on where c is at most 2 m the elementary count of the
+/// largest gap c - 1.
+fn census_sums(genus: u64, list: &[u64], kind: &mut Kind) {
+    let total = list[..2210].iter().sum();
+    kind.same(unsafe { atlas_count(0, genus) }, given(total), &|| format!("{genus}, all places"));
+    for c in 1..=64 {
+        let sum = (0..=33).filter(|m| c <= 2 * m).map(|m| list[65 * m + c]).sum();
+        kind.same(unsafe { atlas_elementary(c as u64 - 1, genus) }, given(sum), &|| format!("{genus}, elementary of conductor {c}"));
+    }
+}
+
+/// The census of every genus from 0 to 32, by the lists up to genus 18 and by the walk above, with its sums, and those of larger genera, each
+/// with lists that are too short, just long enough and longer: an answer and refusals of each number are met.
+fn censuses(words: &Words, r: &mut Random) -> Kind {
+    let mut kind = Kind::new("census and its sums");
+    for w in words.lists.iter().chain([&words.deep, &words.last]).flatten().copied() {
+        assert!(counted_bits(w) == multiplicity_and_conductor(w), "multiplicity and conductor of {w} by counts of bits");
+    }
+    let larger = [33, 34, 1 << 8, 1 << 32, (1 << 32) + 3, 1 << 63, u64::MAX];
+    let random: Vec<u64> = (0..100).map(|i| if i % 2 == 0 { 33 + r.below(1000) } else { r.next().max(33) }).collect();
+    for genus in (0..=32).chain(larger).chain(random) {
+        let tally = match words.lists.get(genus as usize) {
+            Some(list) => tally(list, multiplicity_and_conductor),
+            None if genus > 32 => Tally::new(),
+            None => tally(&walked(genus, 1, 33), counted_bits),
+        };
+        for length in [0, 1, 2209, 2210, 3000] {
+            let list = one_census(genus, &tally, length, &mut kind, r);
+            if genus <= 32 && length == 2210 {
+                census_sums(genus, &list, &mut kind);
+            }
+        }
+    }
+    kind
+}
+
 fn main() {
     let seed = std::env::args().nth(1).map_or(20261115, |s| s.parse().expect("a seed is a number"));
     let mut r = Random(seed | 1);
@@ -1497,6 +1590,7 @@ fn main() {
         short_histories(),
     ];
     kinds.extend(editors(12_000, &words, &mut r));
+    kinds.push(censuses(&words, &mut r));
     println!("seed {seed}");
     for kind in &kinds {
         println!("{:>9} calls of {}: {} differences", kind.calls, kind.name, kind.differences);

@@ -1,7 +1,7 @@
 /* Speed of the atlas as ratios: the count and the whole walk of a genus by batches of 4,096 words, ours against the paper's recursive
-   algorithm in C and against plain Rust, the same work on the same machine in one run; then calls on every word of a genus, the walk of it cut
-   by ancestors, and the walk of a window of it and searches in it, against the walk of it; and changes of lists of generators against calls
-   for their words. Each time is the least of several runs. */
+   algorithm in C and against plain Rust, the same work on the same machine in one run; then the census of a genus, calls on every word of it,
+   the walk of it cut by ancestors, and the walk of a window of it and searches in it, against the walk of it; and changes of lists of
+   generators against calls for their words. Each time is the least of several runs. */
 #include <inttypes.h>
 #include <stdio.h>
 #include <stdlib.h>
@@ -53,6 +53,14 @@ static uint64_t our_walk(unsigned genus, uint64_t *out, size_t length, uint64_t 
 /* The walk of the words of multiplicity 8. */
 static uint64_t our_window(unsigned genus, uint64_t *out, size_t length, uint64_t *mixed) {
   return walked(atlas_fresh_in(genus, 8, 8).walk, out, length, mixed);
+}
+
+/* The census of a genus; gives the sum of its places, the number of semigroups. */
+static uint64_t our_census(unsigned genus, uint64_t *out, size_t length, uint64_t *mixed) {
+  uint64_t total = 0;
+  *mixed = atlas_census(genus, out, length).value;
+  for (int i = 0; i < ATLAS_CENSUS_PLACES; i++) total += out[i];
+  return total;
 }
 
 /* The walk of a genus cut by its ancestors of genus 12, each by itself: how many descendants there are, which is the first, and a walk from
@@ -240,6 +248,17 @@ static void row(const char *name, unsigned genus, work *ours, work *paper, work 
   printf("%-7u %-6s %12" PRIu64 " %10.2f %10.2f %10.2f %9.2f %9.2f\n", genus, name, a, o * 1e3, p * 1e3, r * 1e3, o / p, o / r);
 }
 
+/* The census of a genus as a ratio to the walk, which has so many words. */
+static void census_row(unsigned genus, double walk, uint64_t count) {
+  uint64_t total, mixed;
+  double taken = time_of(our_census, genus, LENGTH, &total, &mixed);
+  if (total != count) {
+    fprintf(stderr, "results differ: census of genus %u\n", genus);
+    exit(1);
+  }
+  printf("census of genus %u: %.2f of the time of the whole walk\n", genus, taken / walk);
+}
+
 /* A call on every word of a genus, without the walk itself, as a ratio to the walk; gives the sum of its numbers. */
 static uint64_t call_row(const char *name, unsigned genus, work *with_call, double walk) {
   uint64_t total, mixed;
@@ -257,6 +276,7 @@ int main(void) {
   }
   uint64_t total, mixed;
   double walk = time_of(our_walk, 24, LENGTH, &total, &mixed);
+  census_row(24, walk, total);
   call_row("a look", 24, walk_looked, walk);
   call_row("coordinates", 24, walk_coordinates, walk);
   call_row("coordinates and back", 24, walk_back, walk);
@@ -289,6 +309,7 @@ int main(void) {
   uint64_t inside;
   double window = time_of(our_window, 32, LENGTH, &inside, &mixed);
   walk = time_of(our_walk, 32, LENGTH, &total, &mixed);
+  census_row(32, walk, total);
   printf("window 8 to 8 of genus 32: %.6f of the time of the whole walk, %.6f of its words\n", window / walk,
          (double)inside / (double)total);
   uint64_t found;
