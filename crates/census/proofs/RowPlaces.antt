@@ -17,7 +17,7 @@ use Rattle.words.proofs.StandingBits.{positions-zero}
 use Rattle.words.proofs.Elements.{ordinary-conductor, conductor-pos, multiplicity-pos, multiplicity-le-genus}
 use Rattle.words.proofs.Closure.{conductor-le-64}
 use Rattle.words.proofs.Tree.{multiplicity-stays}
-use Rattle.tables.specs.Nodes.{nodeOf, firstRow, secondRow}
+use Rattle.tables.specs.Nodes.{nodeOf, firstRow, secondRow, rowOfChild}
 use Rattle.tables.specs.Levels.{Levels, NodeWithLevels}
 use Rattle.tables.specs.declared.Node.{Node}
 use Rattle.tables.specs.Branches.{branches, Offsets}
@@ -27,7 +27,7 @@ use Rattle.tables.proofs.Branches.{TakenOff, child-of, child-levels, leaf-below
 use Rattle.tables.proofs.ChildFirstRow.{child-first-row}
 use Rattle.census.proofs.Tallies.{InParts}
 use Rattle.census.proofs.WordPlaces.{child-place, leaf-place}
-use Rattle.census.specs.Private.{censusPlace, rowOfChild, grandchildPlaces, RowOfPlaces}
+use Rattle.census.specs.Private.{censusPlace, grandchildPlaces, RowOfPlaces}
 
 -- the places below the child at the lowest offset come first
 pub places-first : (first row both m : ℕ) {bits at rest : ℕ} → TakenOff bits at rest
@@ -76,7 +76,6 @@ module _ (w : ℕ) (at : Levels 2 w) (later : multiplicity w < conductor w) wher
     below = child-levels 1 w at (offsets d i)
 
     generators : rightGenerators v ≡ map (λ j. conductor v + j) (positions (childRow d))
-    unfolding rowOfChild
     generators =
         first-row-generators v (below .fits) (below .closed) (omega (arith, below .few))
         ∙ ap (λ (r : ℕ). map (λ j. conductor v + j) (positions r)) (child-first-row w (at .fits) two d (at .closed) (omega (arith, at .few)) (offsets d i))

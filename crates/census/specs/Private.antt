@@ -1,13 +1,13 @@
 -- Numbers that are counted up at places of a list, of which the private functions of the census speak. Assumes nothing: these are
 -- definitions.
-use Prim.Native.Nat.{ℕ, _+_, _*_, _-_, _/_, _%_, _^_, _≤_, _<_}
+use Prim.Native.Nat.{ℕ, _+_, _*_, _%_, _^_, _≤_, _<_}
 use mathlib.Core.List.{List, [], _∷_, map, List·Memᴰ}
-use lib.Bits.{bitOr}
 use lib.ListN.{length, getD, set, replicate}
 use Rattle.words.specs.Lists.{run, joined, sumOver}
-use Rattle.words.specs.Words.{bit, digit, reportedConductor}
+use Rattle.words.specs.Words.{reportedConductor}
 use Rattle.words.specs.Elements.{multiplicity}
 use Rattle.words.specs.Positions.{positions}
+use Rattle.tables.specs.Nodes.{rowOfChild}
 
 -- the place of the word w
 unfoldable pub censusPlace : ℕ → ℕ
@@ -25,11 +25,6 @@ oneMore p o = set o p (getD o p 0 + 1)
 unfoldable pub tallied : List ℕ → List ℕ → List ℕ
 tallied [] o = o
 tallied (p ∷ l) o = tallied l (oneMore p o)
-
--- row 0 of the child at offset d, by row 0 of its parent, what the parent's rows 0 and 1 have in common, and the multiplicity m: the later
--- bits, and bit m - 1 where both rows have bit d
-unfoldable pub rowOfChild : ℕ → ℕ → ℕ → ℕ → ℕ
-rowOfChild row both m d = bitOr (row / 2 ^ (d + 1)) (digit (bit both d) * 2 ^ (m - 1))
 
 -- `first`, an offset d that is a bit of bits and an offset in the row of the child at d, added, for each two such offsets
 unfoldable pub grandchildPlaces : ℕ → ℕ → ℕ → ℕ → ℕ → List ℕ

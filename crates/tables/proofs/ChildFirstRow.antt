@@ -21,7 +21,7 @@ use Rattle.words.proofs.Elements.{multiplicity-below, conductor-pos, element-fr
 use Rattle.words.proofs.Children.{child-at}
 use Rattle.words.proofs.Tree.{multiplicity-stays}
 use Rattle.tables.specs.Seeds.{orderOneSeed, seedTable}
-use Rattle.tables.specs.Nodes.{nodeOf, firstRow, secondRow}
+use Rattle.tables.specs.Nodes.{nodeOf, firstRow, secondRow, rowOfChild}
 use Rattle.tables.proofs.SecondRow.{second-row-bit}
 use Rattle.tables.proofs.FirstRow.{row-bit}
 use Rattle.tables.proofs.ChildGenerators.{generator-without}
@@ -74,8 +74,8 @@ module _ (w : ℕ) (fits : w < 2 ^ 64) (two : 2 ≤ conductor w - genus w) where
 
     -- the law of the child's first row
     pub child-first-row : firstRow (nodeOf (childWord w (conductor w + d)))
-        ≡ bitOr (firstRow (nodeOf w) / 2 ^ (d + 1)) (digit (bit (bitAnd (firstRow (nodeOf w)) (secondRow (nodeOf w))) d) * 2 ^ (multiplicity w - 1))
-    unfolding nodeOf firstRow
+        ≡ rowOfChild (firstRow (nodeOf w)) (bitAnd (firstRow (nodeOf w)) (secondRow (nodeOf w))) (multiplicity w) d
+    unfolding nodeOf firstRow rowOfChild
     child-first-row =
         bits-decide m (seedTable v % 2 ^ multiplicity v) (bitOr (seedTable w % 2 ^ m / 2 ^ (d + 1)) (digit both * 2 ^ (m - 1)))
         (subst (λ (n : ℕ). seedTable v % 2 ^ n < 2 ^ m) (sym same-multiplicity) (mod-lt (seedTable v) (pow-pos m)))

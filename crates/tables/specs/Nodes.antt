@@ -1,12 +1,12 @@
 -- A semigroup under way: its word, table and conductor together, its child, its rows 0 and 1, the lowest of some offsets, and the way to a
 -- descendant. Assumes nothing: these are definitions.
-use Prim.Native.Nat.{ℕ, _+_, _-_, _/_, _%_, _^_}
+use Prim.Native.Nat.{ℕ, _+_, _*_, _-_, _/_, _%_, _^_}
 use mathlib.Core.Bool.{cond}
 use lib.Bits.{bitOr}
 use lib.Dec.{eqb, leb, ltb}
 use lib.ListN.{getD}
 use Rattle.words.specs.Lists.{keep}
-use Rattle.words.specs.Words.{gaps, conductor}
+use Rattle.words.specs.Words.{bit, digit, gaps, conductor}
 use Rattle.words.specs.Positions.{positions}
 use Rattle.words.specs.Elements.{elementAt, multiplicity}
 use Rattle.tables.specs.Seeds.{seedTable}
@@ -41,6 +41,11 @@ firstRow n = n .table % 2 ^ multiplicity (n .word)
 -- row 1 of a node's table as a number: behind row 0 it has as many bits as there are numbers from the multiplicity to the next element
 unfoldable pub secondRow : Node → ℕ
 secondRow n = n .table / 2 ^ multiplicity (n .word) % 2 ^ (elementAt (n .word) 2 - multiplicity (n .word))
+
+-- row 0 of the child at offset d of a parent whose k is at least 2, by row 0 of the parent, what rows 0 and 1 of it have in common, and its
+-- multiplicity m: the later bits, and bit m - 1 where both rows have bit d; that it is row 0 is a law
+unfoldable pub rowOfChild : ℕ → ℕ → ℕ → ℕ → ℕ
+rowOfChild row both m d = bitOr (row / 2 ^ (d + 1)) (digit (bit both d) * 2 ^ (m - 1))
 
 -- the lowest of some offsets, which are the bits of a number of 64 bits, and 64 where there are none
 unfoldable pub lowestOffset : ℕ → ℕ

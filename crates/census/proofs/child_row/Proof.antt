@@ -8,7 +8,7 @@ use lib.Pow.{shl-exact}
 use borrow.Author.Needs.{needs}
 use Rattle.words.specs.Words.{bit, digit}
 use Rattle.words.proofs.Bits.{digit-lt, digit-first, bit-shr}
-use Rattle.census.specs.Private.{rowOfChild}
+use Rattle.tables.specs.Nodes.{rowOfChild}
 use Rattle.census.proofs.child_row.Statement.{statement}
 use Rattle.census.proofs.child_row.Tie as tie
 

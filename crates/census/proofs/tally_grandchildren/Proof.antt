@@ -8,9 +8,10 @@ use lib.Bits.{bitAnd}
 use lib.ListN.{length, length-map}
 use Rattle.words.specs.Positions.{positions}
 use Rattle.words.specs.Tree.{leaves}
+use Rattle.tables.specs.Nodes.{rowOfChild}
 use Rattle.tables.specs.declared.Node.{Node}
 use Rattle.tables.proofs.Branches.{TakenOff, taken-off}
-use Rattle.census.specs.Private.{censusPlace, tallied, RoomFor, rowOfChild, grandchildPlaces, RowOfPlaces}
+use Rattle.census.specs.Private.{censusPlace, tallied, RoomFor, grandchildPlaces, RowOfPlaces}
 use Rattle.census.proofs.Tallies.{InParts, tallied-length, tallied-parts, room-front, room-rest}
 use Rattle.census.proofs.RowPlaces.{places-first, places-none, places-of, numbers-low, offset-places}
 use Rattle.census.proofs.tally_grandchildren.Statement.{statement}
