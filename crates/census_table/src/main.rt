@@ -68,7 +68,7 @@ fn number_at(table: &[u64; 2210], multiplicity: u64, conductor: u64) -> u64 {
 }
 
 // The number of all semigroups.
-fn count(table: &[u64; 2210]) -> u64 {
+fn total(table: &[u64; 2210]) -> u64 {
     let mut sum: u64 = 0;
     for at in 0..2210usize {
         sum = std::num::wrapping_add_u64(sum, table[at]);
@@ -151,7 +151,7 @@ fn write_lines(table: &[u64; 2210]) {
 
 // Writes the number of semigroups of a genus, the table, and the mean conductor: the sum of the conductors over that number.
 fn write_table(genus: u64, table: &[u64; 2210], sum: u64) {
-    let n = count(table);
+    let n = total(table);
     write_text(b"genus ");
     write_number(genus);
     write_text(b" count ");
