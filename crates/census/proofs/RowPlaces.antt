@@ -112,31 +112,35 @@ module _ (w : ℕ) (at : Levels 2 w) (later : multiplicity w < conductor w) wher
       ∙ joined-cong _ _ (positions row) (λ d i.
       ap (map censusPlace) (words-below d i) ∙ map-map censusPlace _ (positions (childRow d)) ∙ map-same _ _ (positions (childRow d)) (place-below d i))
 
--- the same of a node with its levels, and of numbers that are read off it
-module _ (n : Node) (at : NodeWithLevels 2 n) (later : multiplicity (n .word) < conductor (n .word)) {m row both : ℕ} (m-is : m ≡ multiplicity (n .word))
-    (row-is : row ≡ firstRow n) (both-is : both ≡ bitAnd row (secondRow n)) where
-  conductor-is : n .conductor ≡ conductor (n .word)
-  conductor-is = node-conductor 2 n at
+-- what m, row 0 and what rows 0 and 1 have in common, as they are read off a node, tell of the words two levels below it: their places; that m
+-- and the conductor are low; and that an offset of the row is below 63 and the places below the child there are among the 2,210
+pub record RowsTell (n : Node) (m row both : ℕ) : Type 0 where
+  pub places : map censusPlace (leaves 2 (n .word)) ≡ grandchildPlaces (65 * m + n .conductor + 2) row both m row
+  pub low : (1 ≤ m) × (m ≤ 33) × (n .conductor ≤ 64)
+  pub offsets : (d : ℕ) → List·Memᴰ d (positions row) → (d < 63) × RowOfPlaces (65 * m + n .conductor + 2 + d) (rowOfChild row both m d)
 
-  row-is-node : row ≡ firstRow (nodeOf (n .word))
-  row-is-node = row-is ∙ ap firstRow (at .node)
-
-  both-is-node : both ≡ bitAnd (firstRow (nodeOf (n .word))) (secondRow (nodeOf (n .word)))
-  both-is-node = both-is ∙ ap₂ bitAnd row-is-node (ap secondRow (at .node))
-
-  pub places-of : map censusPlace (leaves 2 (n .word)) ≡ grandchildPlaces (65 * m + n .conductor + 2) row both m row
-  places-of = rw (both-is-node, row-is-node, m-is, conductor-is) (grandchild-places (n .word) (at .levels) later)
-
-  pub numbers-low : (1 ≤ m) × (m ≤ 33) × (n .conductor ≤ 64)
-  numbers-low =
-      let w : ℕ = n .word in
+pub rows-tell : (n : Node) {m row both : ℕ} → NodeWithLevels 2 n → multiplicity (n .word) < conductor (n .word)
+    → m ≡ multiplicity (n .word) → row ≡ firstRow n → both ≡ bitAnd row (secondRow n) → RowsTell n m row both
+rows-tell n {m} {row} {both} at later m-is row-is both-is = record {
+  places = rw (both-of, row-of, m-is, conductor-is) (grandchild-places w (at .levels) later);
+  low =
       let o = at .levels in
-      omega (arith, m-is, conductor-is, multiplicity-pos w (o .fits), multiplicity-le-genus w (o .fits), conductor-le-64 w (o .fits) (o .closed) (omega (arith, o .few)), o .few)
+      omega (arith, m-is, conductor-is, multiplicity-pos w (o .fits), multiplicity-le-genus w (o .fits), conductor-le-64 w (o .fits) (o .closed) (omega (arith, o .few)), o .few);
+  offsets = λ d i.
+      let k : List·Memᴰ d (positions (firstRow (nodeOf w))) = subst (λ (r : ℕ). List·Memᴰ d (positions r)) row-of i in (
+        omega (arith, child w (at .levels) later d k .low, conductor-pos w),
+        rw (both-of, row-of, m-is, conductor-is) (row-of-places w (at .levels) later d k),
+      );
+}
+  where
+    w : ℕ
+    w = n .word
 
-  -- an offset of the row is below 63, and the places below the child there are among the 2,210
-  pub offset-places : (d : ℕ) → List·Memᴰ d (positions row) → (d < 63) × RowOfPlaces (65 * m + n .conductor + 2 + d) (rowOfChild row both m d)
-  offset-places d i =
-      let k : List·Memᴰ d (positions (firstRow (nodeOf (n .word)))) = subst (λ (r : ℕ). List·Memᴰ d (positions r)) row-is-node i in (
-        omega (arith, child (n .word) (at .levels) later d k .low, conductor-pos (n .word)),
-        rw (both-is-node, row-is-node, m-is, conductor-is) (row-of-places (n .word) (at .levels) later d k),
-      )
+    conductor-is : n .conductor ≡ conductor (n .word)
+    conductor-is = node-conductor 2 n at
+
+    row-of : row ≡ firstRow (nodeOf (n .word))
+    row-of = row-is ∙ ap firstRow (at .node)
+
+    both-of : both ≡ bitAnd (firstRow (nodeOf (n .word))) (secondRow (nodeOf (n .word)))
+    both-of = both-is ∙ ap₂ bitAnd row-of (ap secondRow (at .node))

@@ -1,6 +1,6 @@
 -- `census::tally_grandchildren` meets its contract. What is left to count makes, with what was counted, all that there is to count. Assumes
 -- nothing.
-use Prim.Native.Nat.{ℕ, _+_, _*_, _^_, _≤_, _<_}
+use Prim.Native.Nat.{ℕ, _+_, _*_, _^_, _<_}
 use mathlib.Core.Path.{_≡_, refl, sym, ap, _∙_, subst}
 use mathlib.Core.List.{List, map, List·Memᴰ, List·Memᴰ·head, List·Memᴰ·tail}
 use native.Mathlib.Omega.{arith}
@@ -13,7 +13,7 @@ use Rattle.tables.specs.declared.Node.{Node}
 use Rattle.tables.proofs.Branches.{TakenOff, taken-off}
 use Rattle.census.specs.Private.{censusPlace, tallied, RoomFor, grandchildPlaces, RowOfPlaces}
 use Rattle.census.proofs.Tallies.{InParts, tallied-length, tallied-parts, room-front, room-rest}
-use Rattle.census.proofs.RowPlaces.{places-first, places-none, places-of, numbers-low, offset-places}
+use Rattle.census.proofs.RowPlaces.{places-first, places-none, RowsTell, rows-tell}
 use Rattle.census.proofs.tally_grandchildren.Statement.{statement}
 use Rattle.census.proofs.tally_grandchildren.Tie as tie
 
@@ -50,30 +50,19 @@ module _ (c : tie.After-second-row Inv-loop μ-loop) where
   abbrev lent : List ℕ
   lent = c .before .before .before .before .args .out .now
 
-  -- the places of the words two levels below it
-  all-places : map censusPlace (leaves 2 (n .word)) ≡ grandchildPlaces first row both m row
-  all-places =
+  tell : RowsTell n m row both
+  tell =
       let start = c .before .before .before .before in
-      places-of n (start .pre .0) (start .pre .1 .0) (c .before .before .multiplicity-of .ensures) (c .before .first-row .ensures) (ap (bitAnd row) (c .second-row .ensures))
-
-  low-numbers : (1 ≤ m) × (m ≤ 33) × (n .conductor ≤ 64)
-  low-numbers =
-      let start = c .before .before .before .before in
-      numbers-low n (start .pre .0) (start .pre .1 .0) (c .before .before .multiplicity-of .ensures) (c .before .first-row .ensures) (ap (bitAnd row) (c .second-row .ensures))
-
-  places-at : (d : ℕ) → List·Memᴰ d (positions row) → (d < 63) × RowOfPlaces (first + d) (rowOfChild row both m d)
-  places-at =
-      let start = c .before .before .before .before in
-      offset-places n (start .pre .0) (start .pre .1 .0) (c .before .before .multiplicity-of .ensures) (c .before .first-row .ensures) (ap (bitAnd row) (c .second-row .ensures))
+      rows-tell n (start .pre .0) (start .pre .1 .0) (c .before .before .multiplicity-of .ensures) (c .before .first-row .ensures) (ap (bitAnd row) (c .second-row .ensures))
 
 mul-first : tie.Need-mul-first Inv-loop μ-loop
-mul-first c = record { fits = omega (arith, low-numbers c) }
+mul-first c = record { fits = omega (arith, tell c .low) }
 
 add-first : tie.Need-add-first Inv-loop μ-loop
-add-first c = record { fits = omega (arith, low-numbers (c .before)) }
+add-first c = record { fits = omega (arith, tell (c .before) .low) }
 
 add-first-2 : tie.Need-add-first-2 Inv-loop μ-loop
-add-first-2 c = record { fits = omega (arith, low-numbers (c .before)) }
+add-first-2 c = record { fits = omega (arith, tell (c .before) .low) }
 
 loop-holds : tie.Need-loop-holds Inv-loop μ-loop
 loop-holds c =
@@ -82,7 +71,7 @@ loop-holds c =
       s .before .first-row .ok,
       refl,
       (λ d i. i),
-      subst (λ (k : ℕ). RoomFor k (lent s)) (sym (length-map (leaves 2 (n s .word)) censusPlace) ∙ ap length (all-places s)) (start .pre .1 .1),
+      subst (λ (k : ℕ). RoomFor k (lent s)) (sym (length-map (leaves 2 (n s .word)) censusPlace) ∙ ap length (tell s .places)) (start .pre .1 .1),
       refl,
     )
 
@@ -104,16 +93,16 @@ module _ (c : tie.After-lowest-of Inv-loop μ-loop) where
   parts = places-first (first s) (row s) (both s) (m s) (lowest c)
 
 add-tally-row : tie.Need-add-tally-row Inv-loop μ-loop
-add-tally-row c = let low = c .before .before in record { fits = omega (arith, low-numbers (s low), places-at (s low) (d low) (among low) .0) }
+add-tally-row c = let low = c .before .before in record { fits = omega (arith, tell (s low) .low, tell (s low) .offsets (d low) (among low) .0) }
 
 child-row-requires : tie.Need-child-row-requires Inv-loop μ-loop
-child-row-requires c κs = let low = c .before .before in let (a, b, e) = low-numbers (s low) in (places-at (s low) (d low) (among low) .0, a, omega arith)
+child-row-requires c κs = let low = c .before .before in let (a, b, e) = tell (s low) .low in (tell (s low) .offsets (d low) (among low) .0, a, omega arith)
 
 tally-row-requires : tie.Need-tally-row-requires Inv-loop μ-loop
 tally-row-requires c κs =
     let low = c .before .before .before .before in
     let row-is = sym (c .before .child-row .ensures) in (
-      subst (RowOfPlaces (first (s low) + d low)) row-is (places-at (s low) (d low) (among low) .1),
+      subst (RowOfPlaces (first (s low) + d low)) row-is (tell (s low) .offsets (d low) (among low) .1),
       subst (λ (k : ℕ). RoomFor k (low .before .before .loop .out)) (length-map (positions (rowOfChild (row (s low)) (both (s low)) (m (s low)) (d low))) _ ∙ ap (λ (r : ℕ). length (positions r)) row-is)
           (room-front (low .before .before .loop .out) (parts low) (low .before .before .loop .inv .3)),
     )
@@ -143,7 +132,7 @@ returns c =
     let s = c .before .before .before in
     sym (ap (λ (l : List ℕ). tallied l (c .before .loop .out)) (places-none (first s) (row s) (both s) (m s)))
     ∙ rw (c .loop-test .left) at (c .before .loop .inv .4)
-    ∙ ap (λ (l : List ℕ). tallied l (lent s)) (sym (all-places s))
+    ∙ ap (λ (l : List ℕ). tallied l (lent s)) (sym (tell s .places))
 
 pub tally-grandchildren-spec : {M : Type 1} → statement M
 tally-grandchildren-spec =
