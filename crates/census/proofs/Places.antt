@@ -1,7 +1,7 @@
 -- The places of a census: which number stands where, and that the words counted up at their places, from 0, make them. Assumes nothing.
 use Prim.Native.Nat.{ℕ, _+_, _*_, _/_, _%_, _≤_, _<_}
 use mathlib.Core.Path.{_≡_, sym, ap, ap₂, _∙_}
-use mathlib.Core.Bool.{_&&_, and-eq-true-iff}
+use mathlib.Core.Bool.{and-eq-true-iff}
 use mathlib.Core.List.{List, map, List·Memᴰ, Memᴰ·of-map}
 use native.Mathlib.Omega.{arith}
 use native.Mathlib.Nat.{div-add-mod}
@@ -19,7 +19,7 @@ use Rattle.words.proofs.Lists.{length-run, map-run, getD-map-run, joined-rows, 
 use Rattle.words.proofs.Kept.{keep-same, keep-map, keep-none}
 use Rattle.words.proofs.GenusList.{genus-list-mem}
 use Rattle.kunz.proofs.Residues.{residue-mod, residue-div}
-use Rattle.census.specs.Census.{censusList, censusNumber, censusPlaces}
+use Rattle.census.specs.Census.{countsAt, censusList, censusNumber, censusPlaces}
 use Rattle.census.specs.Private.{censusPlace, blank, tallied}
 use Rattle.census.proofs.Tallies.{blank-length, blank-at, tallied-length, tallied-at}
 use Rattle.census.proofs.WordPlaces.{word-bounds, place-below-2210}
@@ -48,21 +48,17 @@ module _ (g : ℕ) where
   place-at m c h k = number-at (65 * m + c) (omega arith) ∙ ap₂ (censusNumber g) (residue-div 65 m c (omega arith)) (residue-mod 65 m c (omega arith))
 
   module _ (few : g ≤ 32) where
-    -- a word is at place p where its multiplicity and its conductor are the quotient and the remainder
-    same-place : (p w : ℕ) → List·Memᴰ w (genusList g) → (eqb (multiplicity w) (p / 65) && eqb (reportedConductor w) (p % 65)) ≡ eqb (censusPlace w) p
-    unfolding censusPlace
+    -- a word of the genus counts at the quotient and the remainder of p by 65 just where p is its place
+    same-place : (p w : ℕ) → List·Memᴰ w (genusList g) → countsAt (p / 65) (p % 65) w ≡ eqb (censusPlace w) p
+    unfolding countsAt censusPlace
     same-place p w i =
         let m : ℕ = multiplicity w in
         let c : ℕ = reportedConductor w in
-        let (low, small) = word-bounds g w few (genus-list-mem g i) in
-        true-together _ _
-        (λ e. let (a, b) = and-eq-true-iff (eqb m (p / 65)) (eqb c (p % 65)) .0 e in
-        eq-eqb (65 * m + c) p (omega (arith, eqb-true m (p / 65) a, eqb-true c (p % 65) b, div-add-mod p 65)))
-        (λ e. let there = eqb-true (65 * m + c) p e in
-        and-eq-true-iff (eqb m (p / 65)) (eqb c (p % 65)) .1 (
-          eq-eqb m (p / 65) (sym (residue-div 65 m c (omega arith)) ∙ ap (λ (n : ℕ). n / 65) there),
-          eq-eqb c (p % 65) (sym (residue-mod 65 m c (omega arith)) ∙ ap (λ (n : ℕ). n % 65) there),
-        ))
+        let small = word-bounds g w few (genus-list-mem g i) .1 in
+        let both = and-eq-true-iff (eqb m (p / 65)) (eqb c (p % 65)) in
+        true-together (countsAt (p / 65) (p % 65) w) (eqb (censusPlace w) p)
+        (λ e. let (a, b) = both .0 e in eq-eqb (65 * m + c) p (omega (arith, eqb-true m (p / 65) a, eqb-true c (p % 65) b, div-add-mod p 65)))
+        (λ e. let there = eqb-true (65 * m + c) p e in both .1 (eq-eqb m (p / 65) (omega (arith, there, small)), eq-eqb c (p % 65) (omega (arith, there, small))))
 
     -- so that place p has the number of the words there
     pub words-at : (p : ℕ) → p < 2210 → getD (censusPlaces g) p 0 ≡ length (keep (λ w. eqb (censusPlace w) p) (genusList g))
@@ -74,8 +70,8 @@ module _ (g : ℕ) where
       abbrev often : ℕ → ℕ
       often p = length (keep (λ q. eqb q p) (map censusPlace (genusList g)))
 
-      within : (p : ℕ) → p < 2210 → getD (fronted (blank 2210) lent) p 0 + often p ≡ getD (fronted (censusPlaces g) lent) p 0
-      within p low =
+      at-place : (p : ℕ) → p < 2210 → getD (fronted (blank 2210) lent) p 0 + often p ≡ getD (fronted (censusPlaces g) lent) p 0
+      at-place p low =
           let words = ap length (keep-map (λ q. eqb q p) censusPlace (genusList g)) ∙ length-map (keep (λ w. eqb (censusPlace w) p) (genusList g)) censusPlace in
           omega (
             arith,
@@ -86,8 +82,8 @@ module _ (g : ℕ) where
             words-at p low,
           )
 
-      beyond : (p : ℕ) → ¬ (p < 2210) → getD (fronted (blank 2210) lent) p 0 + often p ≡ getD (fronted (censusPlaces g) lent) p 0
-      beyond p high =
+      past-places : (p : ℕ) → ¬ (p < 2210) → getD (fronted (blank 2210) lent) p 0 + often p ≡ getD (fronted (censusPlaces g) lent) p 0
+      past-places p high =
           let none = ap length (keep-none (λ q. eqb q p) (map censusPlace (genusList g)) (λ q i.
           let (w, j, e) = Memᴰ·of-map censusPlace (genusList g) i in
           ne-eqb q p (λ f. omega (arith, place-below-2210 g w few (genus-list-mem g j))))) in
@@ -101,4 +97,4 @@ module _ (g : ℕ) where
           ext-getD 0 (tallied places (fronted (blank 2210) lent)) (fronted (censusPlaces g) lent)
           (size ∙ fronted-length (blank 2210) lent (omega (arith, blank-length 2210)) ∙ sym (fronted-length (censusPlaces g) lent (omega (arith, places-length))))
           (λ p h. tallied-at places (fronted (blank 2210) lent) p (omega (arith, h, size))
-          ∙ elim (decLt p 2210) [ yes low ↦ within p low | no high ↦ beyond p high ])
+          ∙ elim (decLt p 2210) [ yes low ↦ at-place p low | no high ↦ past-places p high ])

@@ -1,5 +1,5 @@
 -- Numbers counted up at places of a list: what one more changes, and what all of a list of places change. Assumes nothing.
-use Prim.Native.Nat.{ℕ, zero, suc, _+_, _≤_, _<_}
+use Prim.Native.Nat.{ℕ, suc, _+_, _≤_, _<_}
 use mathlib.Core.Path.{_≡_, refl, sym, ap, _∙_}
 use mathlib.Core.List.{List, [], _∷_, _++_}
 use native.Mathlib.Omega.{arith}
@@ -10,6 +10,7 @@ use lib.ListN.{length, getD, length-set, length-append, length-replicate, replic
 use lib.Seq.{getD-set-same, getD-set-other}
 use borrow.Author.Tests.{eq-eqb, ne-eqb}
 use Rattle.words.specs.Lists.{keep, keepIf}
+use Rattle.words.proofs.Lists.{getD-append-default}
 use Rattle.census.specs.Private.{blank, oneMore, tallied, RoomFor}
 
 -- places without any
@@ -19,9 +20,7 @@ blank-length n = length-replicate {A = ℕ} n 0
 
 pub blank-at : (n p : ℕ) → getD (blank n) p 0 ≡ 0
 unfolding blank
-blank-at zero p = refl
-blank-at (suc n) zero = refl
-blank-at (suc n) (suc p) = blank-at n p
+blank-at n p = getD-append-default [] n p 0
 
 pub blank-next : (n : ℕ) → blank n ++ 0 ∷ [] ≡ blank (n + 1)
 unfolding blank

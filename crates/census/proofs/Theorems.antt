@@ -26,7 +26,7 @@ use Rattle.walk.specs.Walks.{countOf}
 use Rattle.walk.proofs.Walks.{count-all}
 use Rattle.elementary.specs.Elementary.{elementary, elementaryList, elementaryCount}
 use Rattle.elementary.specs.Answers.{elementaryOf}
-use Rattle.census.specs.Census.{censusList, censusNumber, censusPlaces, conductorSum, censusOf, MultiplicityAndConductor, InCensus}
+use Rattle.census.specs.Census.{countsAt, censusList, censusNumber, censusPlaces, conductorSum, censusOf, MultiplicityAndConductor, InCensus}
 use Rattle.census.proofs.Places.{places-length, place-at}
 use Rattle.census.proofs.Totals.{places-count, passing-count}
 
@@ -34,9 +34,9 @@ use Rattle.census.proofs.Totals.{places-count, passing-count}
 
 -- the words of multiplicity m and conductor c are those of all numerical semigroups of the genus with these
 pub census-list-all : (g m c : ℕ) → g ≤ 32 → AllOf (InCensus g m c) (censusList g m c)
-unfolding censusList
+unfolding countsAt censusList
 census-list-all g m c few =
-    kept-all g few (MultiplicityAndConductor m c) (λ w. eqb (multiplicity w) m && eqb (reportedConductor w) c) (λ w fits. (
+    kept-all g few (MultiplicityAndConductor m c) (countsAt m c) (λ w fits. (
       (λ e. let (a, b) = both w .0 e in record {
         multiplicity = subst (MultiplicityOf (setOf w)) (eqb-true (multiplicity w) m a) (set-multiplicity w fits);
         conductor = subst (ReportedConductorOf (setOf w)) (eqb-true (reportedConductor w) c b) (reported-conductor-of w fits);

@@ -17,7 +17,7 @@ use Rattle.words.proofs.Kept.{keep-same, keep-both}
 use Rattle.words.proofs.GenusList.{genus-list-mem}
 use Rattle.kunz.proofs.Residues.{residue-mod}
 use Rattle.kunz.proofs.Compositions.{genus-number}
-use Rattle.census.specs.Census.{censusList, censusNumber, censusPlaces, conductorSum}
+use Rattle.census.specs.Census.{countsAt, censusList, censusNumber, censusPlaces, conductorSum}
 use Rattle.census.specs.Private.{censusPlace, blank, RoomFor, conductorsIn}
 use Rattle.census.proofs.Tallies.{blank-length, blank-at}
 use Rattle.census.proofs.WordPlaces.{word-bounds, place-below-2210}
@@ -61,7 +61,7 @@ module _ (g : ℕ) (few : g ≤ 32) where
   -- of the words with conductor c, those of each multiplicity, which pass a test or don't, make those whose multiplicity passes
   pub passing-count : (c : ℕ) (pass : ℕ → Bool)
       → sumOver (λ m. censusNumber g m c) (keep pass (run 0 34)) ≡ length (keep (λ w. eqb (reportedConductor w) c && pass (multiplicity w)) (genusList g))
-  unfolding censusNumber censusList
+  unfolding countsAt censusNumber censusList
   passing-count c pass =
       let with-conductor : List ℕ = keep (λ w. eqb (reportedConductor w) c) (genusList g) in
       sum-kept (λ m. censusNumber g m c) pass (run 0 34)

@@ -1,10 +1,13 @@
--- The place of a word in a census: that of a child, and that it is one of the 2,210 for every word of a genus up to 32. Assumes nothing.
+-- The place of a word in a census: where the word 0 counts, the place of a child, and that it is one of the 2,210 for every word of a genus up
+-- to 32. Assumes nothing.
 use Prim.Native.Nat.{ℕ, suc, _+_, _*_, _≤_, _<_}
-use mathlib.Core.Path.{_≡_, ap, _∙_}
+use mathlib.Core.Path.{_≡_, refl, ap, _∙_}
+use mathlib.Core.Bool.{true, false}
 use mathlib.Core.Logic.{_≢_}
 use mathlib.Core.List.{List·Memᴰ}
 use native.Mathlib.Omega.{arith}
-use Rattle.words.specs.Words.{genus, reportedConductor, childWord}
+use Rattle.words.specs.Lists.{none, run, keep, keepIf, lastOr}
+use Rattle.words.specs.Words.{bit, setOf, gaps, genus, largestGap, conductor, reportedConductor, childWord}
 use Rattle.words.specs.Elements.{multiplicity}
 use Rattle.words.specs.Children.{Child}
 use Rattle.words.specs.Tree.{leaves}
@@ -15,7 +18,13 @@ use Rattle.words.proofs.GenusList.{WordOfGenus}
 use Rattle.words.proofs.Reported.{reported-le, conductors-agree}
 use Rattle.tables.specs.Levels.{Levels}
 use Rattle.tables.proofs.Branches.{leaf-descendant}
+use Rattle.census.specs.Census.{countsAt}
 use Rattle.census.specs.Private.{censusPlace}
+
+-- the word 0 counts at its multiplicity 1 and its reported conductor 0, and not at the conductor 1 of source 000
+pub zero-counts-at : (countsAt 1 0 0 ≡ true) × (countsAt 1 1 0 ≡ false)
+unfolding none run keep keepIf lastOr bit setOf gaps largestGap conductor reportedConductor multiplicity countsAt
+zero-counts-at = (refl, refl)
 
 -- the place of a child: its conductor is one more than its new gap
 pub child-place : (w x : ℕ) → Child w x → censusPlace (childWord w x) ≡ 65 * multiplicity (childWord w x) + suc x

@@ -1,7 +1,7 @@
 -- The census of a genus: how many semigroups it has of each multiplicity and reported conductor, the sum of these conductors, and what the
 -- call answers. Assumes nothing: these are definitions.
 use Prim.Native.Nat.{ℕ}
-use mathlib.Core.Bool.{_&&_}
+use mathlib.Core.Bool.{Bool, _&&_}
 use mathlib.Core.List.{List, map}
 use lib.Dec.{eqb, leb}
 use lib.ListN.{length}
@@ -12,9 +12,13 @@ use Rattle.words.specs.Elements.{multiplicity}
 use Rattle.words.specs.GenusList.{genusList}
 use Rattle.words.specs.Answers.{ask, ListAnswer, unchanged, giving}
 
--- the words of the genus list of g with multiplicity m and reported conductor c
+-- w has multiplicity m and reported conductor c
+unfoldable pub countsAt : ℕ → ℕ → ℕ → Bool
+countsAt m c w = eqb (multiplicity w) m && eqb (reportedConductor w) c
+
+-- the words of the genus list of g that have these
 unfoldable pub censusList : ℕ → ℕ → ℕ → List ℕ
-censusList g m c = keep (λ w. eqb (multiplicity w) m && eqb (reportedConductor w) c) (genusList g)
+censusList g m c = keep (countsAt m c) (genusList g)
 
 -- how many they are
 unfoldable pub censusNumber : ℕ → ℕ → ℕ → ℕ

@@ -13,6 +13,7 @@ pub mod Levels
 pub mod Branches
 pub mod FirstNode
 pub mod ChildFirstRow
+pub mod RowsBelow
 pub mod GrandchildLists
 pub mod GrandchildCounts
 pub mod Way

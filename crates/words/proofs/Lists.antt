@@ -6,7 +6,7 @@ use mathlib.Core.Logic.{_⊎_, inl, inr, _↔_, ⊎-elim}
 use mathlib.Core.Bool.{Bool, true, false, cond, _&&_, and-assoc, and-eq-true-iff, not, _||_, and-true, Bool·not-not}
 use mathlib.Core.List.{List, [], _∷_, _++_, append-assoc, map, map-append, List·Memᴰ, List·Memᴰ·head, List·Memᴰ·tail, List·Memᴰ·not-nil, List·Memᴰ·cases-cons, Memᴰ·cast, Memᴰ·append-left, Memᴰ·append-right, List·Memᴰ·append-cases, Memᴰ·of-map, append-nil}
 use native.Mathlib.Omega.{arith}
-use native.Mathlib.Nat.{add-zero, zero-add, suc-add, add-suc, eq-or-lt-of-le, le-of-eq, le-trans, le-of-lt, le-dest, pow-suc, suc-mul, mul-zero, mul-suc}
+use native.Mathlib.Nat.{add-zero, zero-add, suc-add, add-suc, eq-or-lt-of-le, le-of-eq, le-trans, le-of-lt, le-dest, pow-suc, mul-zero, mul-suc}
 use native.Mathlib.Numerals.{add-one}
 use native.Mathlib.Decide.{ℕ-discrete}
 use lib.Dec.{eqb, ltb}
@@ -253,6 +253,12 @@ module _ {A : Type 0} where
         let e = heads-agree x y k l o p (f x (List·Memᴰ·head refl)) (g y (List·Memᴰ·head refl)) in
         ap₂ _∷_ e (ordered-unique k l (o .1) (p .1) (tails-agree x y k l o e f) (tails-agree y x l k p (sym e) g))
 
+-- a sum of numbers that are at most n
+pub sum-at-most : {A : Type 0} (f : A → ℕ) (n : ℕ) (l : List A) → ((x : A) → List·Memᴰ x l → f x ≤ n) → sumOver f l ≤ length l * n
+unfolding sumOver
+sum-at-most f n [] h = omega arith
+sum-at-most f n (x ∷ l) h = omega (arith, h x (List·Memᴰ·head refl), sum-at-most f n l (λ y m. h y (List·Memᴰ·tail m)))
+
 module _ {A B : Type 0} where
   -- ---- joined
 
@@ -314,12 +320,7 @@ module _ {A B : Type 0} where
 
   -- where f of each has at most n
   pub length-joined-le : (f : A → List B) (n : ℕ) (l : List A) → ((x : A) → List·Memᴰ x l → length (f x) ≤ n) → length (joined f l) ≤ length l * n
-  unfolding joined
-  length-joined-le f n [] h = omega arith
-  length-joined-le f n (x ∷ l) h =
-      let here : length (f x) ≤ n = h x (List·Memᴰ·head refl) in
-      let later : length (joined f l) ≤ length l * n = length-joined-le f n l (λ y m. h y (List·Memᴰ·tail m)) in
-      omega (arith, length-append (f x) (joined f l), suc-mul (length l) n)
+  length-joined-le f n l h = omega (arith, length-joined f l, sum-at-most (λ x. length (f x)) n l h)
 
   -- along one more of the first of a list
   pub joined-more : (f : A → List B) (l : List A) (i : ℕ) (d : A) → i < length l → joined f (take (i + 1) l) ≡ joined f (take i l) ++ f (getD l i d)
@@ -628,12 +629,6 @@ module _ {A : Type 0} where
   unfolding sumOver
   sum-of-ones [] = refl
   sum-of-ones (x ∷ l) = omega (arith, sum-of-ones l)
-
-  -- a sum of numbers that are at most n
-  pub sum-at-most : (f : A → ℕ) (n : ℕ) (l : List A) → ((x : A) → List·Memᴰ x l → f x ≤ n) → sumOver f l ≤ length l * n
-  unfolding sumOver
-  sum-at-most f n [] h = omega arith
-  sum-at-most f n (x ∷ l) h = omega (arith, h x (List·Memᴰ·head refl), sum-at-most f n l (λ y m. h y (List·Memᴰ·tail m)))
 
   -- a sum over those that pass a test
   pub sum-kept : (f : A → ℕ) (p : A → Bool) (l : List A) → sumOver f (keep p l) ≡ sumOver (λ x. digit (p x) * f x) l

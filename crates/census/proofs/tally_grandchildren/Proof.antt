@@ -50,19 +50,19 @@ module _ (c : tie.After-second-row Inv-loop μ-loop) where
   abbrev lent : List ℕ
   lent = c .before .before .before .before .args .out .now
 
-  tell : RowsTell n m row both
-  tell =
+  told : RowsTell n m row both
+  told =
       let start = c .before .before .before .before in
       rows-tell n (start .pre .0) (start .pre .1 .0) (c .before .before .multiplicity-of .ensures) (c .before .first-row .ensures) (ap (bitAnd row) (c .second-row .ensures))
 
 mul-first : tie.Need-mul-first Inv-loop μ-loop
-mul-first c = record { fits = omega (arith, tell c .low) }
+mul-first c = record { fits = omega (arith, told c .low) }
 
 add-first : tie.Need-add-first Inv-loop μ-loop
-add-first c = record { fits = omega (arith, tell (c .before) .low) }
+add-first c = record { fits = omega (arith, told (c .before) .low) }
 
 add-first-2 : tie.Need-add-first-2 Inv-loop μ-loop
-add-first-2 c = record { fits = omega (arith, tell (c .before) .low) }
+add-first-2 c = record { fits = omega (arith, told (c .before) .low) }
 
 loop-holds : tie.Need-loop-holds Inv-loop μ-loop
 loop-holds c =
@@ -71,7 +71,7 @@ loop-holds c =
       s .before .first-row .ok,
       refl,
       (λ d i. i),
-      subst (λ (k : ℕ). RoomFor k (lent s)) (sym (length-map (leaves 2 (n s .word)) censusPlace) ∙ ap length (tell s .places)) (start .pre .1 .1),
+      subst (λ (k : ℕ). RoomFor k (lent s)) (sym (length-map (leaves 2 (n s .word)) censusPlace) ∙ ap length (told s .places)) (start .pre .1 .1),
       refl,
     )
 
@@ -93,16 +93,16 @@ module _ (c : tie.After-lowest-of Inv-loop μ-loop) where
   parts = places-first (first s) (row s) (both s) (m s) (lowest c)
 
 add-tally-row : tie.Need-add-tally-row Inv-loop μ-loop
-add-tally-row c = let low = c .before .before in record { fits = omega (arith, tell (s low) .low, tell (s low) .offsets (d low) (among low) .0) }
+add-tally-row c = let low = c .before .before in record { fits = omega (arith, told (s low) .low, told (s low) .offsets (d low) (among low) .0) }
 
 child-row-requires : tie.Need-child-row-requires Inv-loop μ-loop
-child-row-requires c κs = let low = c .before .before in let (a, b, e) = tell (s low) .low in (tell (s low) .offsets (d low) (among low) .0, a, omega arith)
+child-row-requires c κs = let low = c .before .before in let (a, b, e) = told (s low) .low in (told (s low) .offsets (d low) (among low) .0, a, omega arith)
 
 tally-row-requires : tie.Need-tally-row-requires Inv-loop μ-loop
 tally-row-requires c κs =
     let low = c .before .before .before .before in
     let row-is = sym (c .before .child-row .ensures) in (
-      subst (RowOfPlaces (first (s low) + d low)) row-is (tell (s low) .offsets (d low) (among low) .1),
+      subst (RowOfPlaces (first (s low) + d low)) row-is (told (s low) .offsets (d low) (among low) .1),
       subst (λ (k : ℕ). RoomFor k (low .before .before .loop .out)) (length-map (positions (rowOfChild (row (s low)) (both (s low)) (m (s low)) (d low))) _ ∙ ap (λ (r : ℕ). length (positions r)) row-is)
           (room-front (low .before .before .loop .out) (parts low) (low .before .before .loop .inv .3)),
     )
@@ -132,7 +132,7 @@ returns c =
     let s = c .before .before .before in
     sym (ap (λ (l : List ℕ). tallied l (c .before .loop .out)) (places-none (first s) (row s) (both s) (m s)))
     ∙ rw (c .loop-test .left) at (c .before .loop .inv .4)
-    ∙ ap (λ (l : List ℕ). tallied l (lent s)) (sym (tell s .places))
+    ∙ ap (λ (l : List ℕ). tallied l (lent s)) (sym (told s .places))
 
 pub tally-grandchildren-spec : {M : Type 1} → statement M
 tally-grandchildren-spec =
