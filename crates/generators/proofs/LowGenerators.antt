@@ -1,11 +1,11 @@
 -- The generators below the conductor by shifts: elements below it that are no sum of two such elements. Assumes nothing.
-use Prim.Native.Nat.{ℕ, suc, _+_, _*_, _-_, _%_, _^_, _≤_, _<_}
+use Prim.Native.Nat.{ℕ, _+_, _*_, _-_, _%_, _^_, _≤_, _<_}
 use mathlib.Core.Path.{_≡_, refl, sym, ap, ap₂, fun-ext, _∙_}
 use mathlib.Core.Bool.{Bool, and-true, true, false, not, _||_, _&&_, and-false, or-false, and-eq-true-iff}
 use mathlib.Core.List.{List, [], _∷_, _++_, map}
 use native.Mathlib.Omega.{arith}
-use native.Mathlib.Nat.{mod-le, add-comm}
-use lib.Dec.{ltb, leb·suc-suc}
+use native.Mathlib.Nat.{add-comm}
+use lib.Dec.{ltb}
 use lib.Bits.{bitAnd, bitOr, and-mask}
 use lib.Count.{ones}
 use lib.ListN.{length, length-append, length-map}
@@ -18,9 +18,9 @@ use Rattle.words.specs.Elements.{generator}
 use Rattle.words.specs.Answers.{Accepted}
 use Rattle.words.proofs.Booleans.{not-both, is-false, by-value, true-together}
 use Rattle.words.proofs.Lists.{run-mem, mem-run, keep-mem, mem-keep, ordered-run, ordered-keep, ordered-unique, every-mem, every-false, some-more, run-append}
-use Rattle.words.proofs.Bits.{bit-low, bit-not, one-shl}
+use Rattle.words.proofs.Bits.{one-shl}
 use Rattle.words.proofs.Sets.{sum-of, sum-found, same-sums}
-use Rattle.words.proofs.BitSets.{bits-from-is, bits-from-same, bits-from-listed, bits-from-none, bits-from-not, bits-from-or, bits-from-and, bits-from-shl}
+use Rattle.words.proofs.BitSets.{bits-from-same, bits-from-listed, bits-from-none, bits-from-not, bits-from-or, bits-from-and, bits-from-shl, bits-from-below, complement-from}
 use Rattle.words.proofs.Elements.{conductor-pos, generator-parts}
 use Rattle.words.proofs.Closure.{conductor-le-64}
 use Rattle.tables.specs.Seeds.{setBelow}
@@ -124,17 +124,13 @@ module _ (w : ℕ) where
 
   module _ (fits : w < 2 ^ 64) (low : conductor w ≤ 64) where
     pub below-bits : bitAnd (2 ^ 64 - 1 - w) (1 * 2 ^ (conductor w - 1) % 2 ^ 64 - 1) ≡ bitsFrom belowConductor 1
-    unfolding setBelow setOf
+    unfolding setBelow
     below-bits =
         let c : ℕ = conductor w in
         let pos = conductor-pos w in
         let n : ℕ = 2 ^ 64 - 1 - w in
-        let last : suc (c - 1) ≡ c = omega arith in
         ap (λ (m : ℕ). bitAnd n (m - 1)) (one-shl (c - 1) (omega arith)) ∙ and-mask n (c - 1)
-        ∙ bits-from-is belowConductor 1 (n % 2 ^ (c - 1)) (omega (arith, mod-le n (2 ^ (c - 1))))
-        (λ j h.
-        let next : suc j ≡ 1 + j = omega arith in
-        bit-low n (c - 1) j ∙ ap₂ _&&_ (bit-not 64 w j fits h) (sym (leb·suc-suc (suc j) (c - 1)) ∙ ap (ltb (suc j)) last) ∙ ap belowConductor next)
+        ∙ ap (λ (m : ℕ). m % 2 ^ (c - 1)) (complement-from w fits) ∙ bits-from-below (setOf w) c
 
     -- the bits list the generators below the conductor
     pub low-listed : map (λ d. 1 + d) (positions (bitsFrom (lowGenerator w) 1)) ≡ keep (generator w) (run 0 (conductor w))

@@ -15,7 +15,7 @@ use Rattle.words.specs.Lists.{run, keep, Ordered}
 use Rattle.words.specs.Words.{setOf, genus, wordOf}
 use Rattle.words.specs.Elements.{multiplicity}
 use Rattle.words.proofs.Booleans.{not-both, is-true, by-value}
-use Rattle.words.proofs.Lists.{run-mem, mem-run, ordered-run, run-append, length-run, keep-mem, mem-keep, keep-append, keep-more-out, ordered-keep}
+use Rattle.words.proofs.Lists.{run-mem, mem-run, ordered-run, length-run, keep-mem, mem-keep, keep-run, keep-more-out, ordered-keep}
 use Rattle.words.proofs.Kept.{keep-all}
 use Rattle.words.proofs.Words.{GapList, word-gaps, word-lt, word-append, gaps-of-word}
 use Rattle.words.proofs.Closure.{closed-iff}
@@ -54,9 +54,8 @@ module _ (d : ℕ) where
   kept-row : (n r : ℕ) → r ≤ d → undividedTo (suc d) (suc d * n + r) ≡ undividedTo (suc d) (suc d * n) ++ run (suc (suc d * n)) r
   kept-row n r h =
       let next : 1 + suc d * n ≡ suc (suc d * n) = omega arith in
-      ap (keep (undivided (suc d))) (run-append 1 (suc d * n) r ∙ ap (λ (a : ℕ). run 1 (suc d * n) ++ run a r) next)
-      ∙ keep-append (undivided (suc d)) (run 1 (suc d * n)) (run (suc (suc d * n)) r)
-      ∙ ap (λ (l : List ℕ). undividedTo (suc d) (suc d * n) ++ l) (row n r h)
+      keep-run (undivided (suc d)) 1 (suc d * n) r
+      ∙ ap (λ (l : List ℕ). undividedTo (suc d) (suc d * n) ++ l) (ap (λ (a : ℕ). keep (undivided (suc d)) (run a r)) next ∙ row n r h)
 
   -- the numbers up to m * (n + 1): m divides the last
   kept-next : (n : ℕ) → undividedTo (suc d) (suc d * suc n) ≡ undividedTo (suc d) (suc d * n) ++ run (suc (suc d * n)) d
@@ -168,7 +167,7 @@ module _ (g m k : ℕ) (enough : Enough g m k) where
   passed =
       let (j, e) = le-dest (enough .few) in
       ap (λ (n : ℕ). take g (undividedTo m n)) (sym e)
-      ∙ ap (take g) (ap (keep (undivided m)) (run-append 1 k j) ∙ keep-append (undivided m) (run 1 k) (run (1 + k) j))
+      ∙ ap (take g) (keep-run (undivided m) 1 k j)
       ∙ take-at (undividedTo m k) (keep (undivided m) (run (1 + k) j)) g (enough .number)
 
   -- they are gaps in order

@@ -1,24 +1,26 @@
 -- Sets of 64 numbers as bits. Assumes nothing.
 use Prim.Native.Nat.{ℕ, suc, _+_, _*_, _-_, _%_, _^_, _≤_, _<_}
 use mathlib.Core.Path.{_≡_, sym, ap, ap₂, subst, _∙_}
-use mathlib.Core.Bool.{Bool, false, not, _||_, _&&_}
+use mathlib.Core.Bool.{Bool, true, false, not, _||_, _&&_, Bool·not-not}
 use mathlib.Core.List.{map, Memᴰ·cast, Memᴰ·map, Memᴰ·of-map}
 use native.Mathlib.Omega.{arith}
-use native.Mathlib.Nat.{mod-lt, le-dest}
+use native.Mathlib.Nat.{mod-lt, mod-le, le-dest}
 use lib.Dec.{eqb, ltb}
 use lib.Bits.{bitAnd, bitOr, or-lt, and-lt}
+use lib.Count.{trailingZeros, trailing-le}
 use lib.Pow.{pow-pos, pow-lt}
 use lib.ListN.{length-map}
 use borrow.Author.Tests.{ltb-true, ltb-false, lt-ltb, le-ltb, eqb-true, eq-eqb, not-true, not-false}
 use Rattle.words.specs.Lists.{run, keep}
 use Rattle.words.specs.Sets.{Set, gapsTo}
-use Rattle.words.specs.Words.{bit, setOf, wordOf}
+use Rattle.words.specs.Words.{bit, setOf, gaps, wordOf}
 use Rattle.words.specs.Positions.{positions, bitsFrom}
 use Rattle.words.proofs.Booleans.{by-value, true-together}
 use Rattle.words.proofs.Lists.{run-mem, mem-run, keep-mem, mem-keep, ordered-run, ordered-keep, ordered-map, ordered-unique, length-run, getD-map-run}
-use Rattle.words.proofs.Bits.{bit-and, bit-or, bit-not, bit-zero, bit-pow, bit-mod, bit-shl, bit-shl-low, bits-decide, bit-ofBits, ofBits-lt}
+use Rattle.words.proofs.Bits.{bit-and, bit-or, bit-not, bit-zero, bit-pow, bit-mod, bit-low, bit-shl, bit-shl-low, bits-decide, bit-ofBits, ofBits-lt}
+use Rattle.words.proofs.StandingBits.{trailing-below, trailing-stands}
 use Rattle.words.proofs.Sets.{gaps-to-mem, mem-gaps-to}
-use Rattle.words.proofs.Words.{gaps-to-list, word-gaps, word-lt}
+use Rattle.words.proofs.Words.{gaps-to-list, word-gaps, word-lt, word-of-gaps}
 
 module _ (S : Set) (first : ℕ) where
   pub bits-from-bit : (j : ℕ) → j < 64 → bit (bitsFrom S first) j ≡ S (first + j)
@@ -57,6 +59,17 @@ module _ (S : Set) (first : ℕ) where
   -- no bit stands where none is in S
   pub bits-from-none : ((x : ℕ) → first ≤ x → x < first + 64 → S x ≡ false) → 0 ≡ bitsFrom S first
   bits-from-none none = bits-from-is 0 (omega arith) (λ j h. bit-zero j ∙ sym (none (first + j) (omega arith) (omega arith)))
+
+  -- the lowest bit that stands: no number before it is in S
+  pub bits-from-before : (x : ℕ) → first ≤ x → x < first + trailingZeros 64 (bitsFrom S first) → S x ≡ false
+  bits-from-before x low high =
+      let (j, e) = le-dest low in
+      let below : j < trailingZeros 64 (bitsFrom S first) = omega arith in
+      ap S (sym e) ∙ sym (bits-from-bit j (omega (arith, trailing-le 64 (bitsFrom S first)))) ∙ trailing-below 64 (bitsFrom S first) j below
+
+  -- and its own is, where there is one
+  pub bits-from-lowest : trailingZeros 64 (bitsFrom S first) < 64 → S (first + trailingZeros 64 (bitsFrom S first)) ≡ true
+  bits-from-lowest h = sym (bits-from-bit _ h) ∙ trailing-stands 64 (bitsFrom S first) h
 
 -- sets that agree on the 64 numbers
 pub bits-from-same : (S T : Set) (first : ℕ) → ((x : ℕ) → first ≤ x → x < first + 64 → S x ≡ T x) → bitsFrom S first ≡ bitsFrom T first
@@ -98,6 +111,16 @@ bits-from-shl S k =
         ap (bit (bitsFrom S 1 * 2 ^ k)) (sym e) ∙ bit-shl (bitsFrom S 1) k i ∙ bits-from-bit S 1 i (omega arith) ∙ ap S rest
         ∙ sym (ap (λ (b : Bool). b && S (1 + j - k)) (lt-ltb k (1 + j) (omega arith)))
 
+-- of a set the numbers below n
+pub bits-from-below : (S : Set) (n : ℕ) → bitsFrom S 1 % 2 ^ (n - 1) ≡ bitsFrom (λ x. S x && ltb x n) 1
+bits-from-below S n =
+    bits-from-is (λ x. S x && ltb x n) 1 (bitsFrom S 1 % 2 ^ (n - 1)) (omega (arith, mod-le (bitsFrom S 1) (2 ^ (n - 1)), bits-from-lt S 1)) (λ j h.
+    bit-low (bitsFrom S 1) (n - 1) j
+    ∙ ap₂ _&&_ (bits-from-bit S 1 j h)
+    (true-together (ltb j (n - 1)) (ltb (1 + j) n)
+    (λ e. let l = ltb-true j (n - 1) e in lt-ltb (1 + j) n (omega arith))
+    (λ e. let l = ltb-true (1 + j) n e in lt-ltb j (n - 1) (omega arith))))
+
 -- of one number
 pub bits-from-one : (first i : ℕ) → i < 64 → 2 ^ i ≡ bitsFrom (eqb (first + i)) first
 bits-from-one first i h =
@@ -118,3 +141,14 @@ word-bits S =
     true-together (bit w j) (not (S (1 + j)))
     (λ e. ap (λ (x : ℕ). not (S x)) (sym next) ∙ ap not (gaps-to-mem S 64 (g .all (suc j) (ap not e)) .2))
     (λ e. not-false _ (g .missed (suc j) (mem-gaps-to S 64 (suc j) (omega arith) (omega arith) (ap S next ∙ not-true _ e)))))
+
+-- so that a word of 64 bits has its gaps as bits
+pub word-from : (w : ℕ) → w < 2 ^ 64 → w ≡ bitsFrom (λ x. not (setOf w x)) 1
+unfolding gaps
+word-from w fits = sym (word-of-gaps w fits) ∙ word-bits (setOf w)
+
+-- and its complement has its positive elements
+pub complement-from : (w : ℕ) → w < 2 ^ 64 → 2 ^ 64 - 1 - w ≡ bitsFrom (setOf w) 1
+complement-from w fits =
+    ap (λ (n : ℕ). 2 ^ 64 - 1 - n) (word-from w fits) ∙ bits-from-not (λ x. not (setOf w x)) 1
+    ∙ bits-from-same (λ x. not (not (setOf w x))) (setOf w) 1 (λ x low high. Bool·not-not (setOf w x))

@@ -3,6 +3,7 @@
 use Prim.Native.Nat.{ℕ, _+_, _<_}
 use mathlib.Core.Path.{_≡_, refl, sym, _∙_, ap}
 use mathlib.Core.List.{List, [], _∷_, map}
+use mathlib.Core.Option as option
 use native.Mathlib.Omega.{arith}
 use native.Mathlib.Nat.{zero-add}
 use lib.IntN.{pos, negsuc}
@@ -12,6 +13,8 @@ use Rattle.words.specs.Sets.{sumOfTwo}
 use Rattle.words.specs.Words.{bit, setOf, gaps, genus, largestGap, conductor, reportedConductor, signedLargestGap, closed, childWord}
 use Rattle.words.specs.Elements.{multiplicity, generator, rightGenerators}
 use Rattle.words.specs.GenusList.{genusList, descendants}
+use Rattle.words.specs.GapLists.{setMissing, closedGaps}
+use Rattle.words.specs.Openings.{smallestGaps, openingOf}
 use Rattle.words.specs.Answers.{refused, given, askWord, reportOf, lookOf}
 use Rattle.words.proofs.Lists.{map-run, getD-map-run}
 use Rattle.words.specs.Tree.{leaves}
@@ -63,3 +66,14 @@ pub known-conductors-and-multiplicities : let words : List ℕ = 0 ∷ 2 ∷ 13 
     (map conductor words ≡ 1 ∷ 3 ∷ 5 ∷ 64 ∷ 65 ∷ 65 ∷ []) × (map multiplicity words ≡ 1 ∷ 1 ∷ 2 ∷ 64 ∷ 1 ∷ 65 ∷ [])
 unfolding run keep lastOr bit setOf gaps largestGap conductor multiplicity
 known-conductors-and-multiplicities = (refl, refl)
+
+-- the shortest impossible openings of 13, 2 and 0
+pub known-openings : map openingOf (13 ∷ 2 ∷ 0 ∷ []) ≡ option.some 3 ∷ option.some 1 ∷ option.none ∷ []
+unfolding run keep keepIf every sumOfTwo bit setOf gaps genus setMissing closedGaps smallestGaps openingOf
+known-openings = refl
+
+-- and with more than 32 gaps: of all gaps up to 64 and of the gaps 1 to 33 and 64, whose sets are closed under addition, and of all gaps up to 64
+-- but 21, of which 42 and 63 are sums of 21
+pub known-long-openings : map openingOf (18446744073709551615 ∷ 9223372045444710399 ∷ 18446744073708503039 ∷ []) ≡ option.none ∷ option.none ∷ option.some 41 ∷ []
+unfolding run keep keepIf every sumOfTwo bit setOf gaps genus setMissing closedGaps smallestGaps openingOf
+known-long-openings = refl

@@ -18,7 +18,7 @@ use Rattle.words.specs.GenusList.{risings, descendants, descendantCount,
 use Rattle.words.specs.GapLists.{setMissing, closedGaps, extensions, Extends, AllGapLists}
 use Rattle.words.proofs.Booleans.{not-both, is-true, is-false}
 use Rattle.words.proofs.Lists.{Rising, rising-nil, rising-cons, rising-tail, keep-mem, mem-keep, every-mem, every-same, every-false, every-append, ordered-parts, ordered-keep, ordered-map, ordered-once, ordered-unique, le-last}
-use Rattle.words.proofs.Sets.{sums-below, gaps-unique, same-of-gaps, gap-positive, closed-by-gaps}
+use Rattle.words.proofs.Sets.{same-sums, sums-below, gaps-unique, same-of-gaps, gap-positive, closed-by-gaps}
 use Rattle.words.proofs.Words.{gaps-mem, gaps-of}
 use Rattle.words.proofs.Counting.{gap-bound}
 use Rattle.words.proofs.Elements.{rise-behind, behind-conductor, gap-below-conductor, generator-from-conductor}
@@ -62,16 +62,23 @@ unfolding setMissing every
 missing-more k x y =
     every-append _ k (x ∷ []) ∙ ap (λ (b : Bool). setMissing k y && b) (and-true (not (eqb y x))) ∙ and-comm (setMissing k y) (not (eqb y x))
 
+-- the test of a list stays the same where the set misses larger numbers too: what a number is a sum of is smaller
+pub closed-front : (k t : List ℕ) → ((y z : ℕ) → List·Memᴰ y k → List·Memᴰ z t → y < z) → closedGaps k ≡ every (λ y. not (sumOfTwo (setMissing (k ++ t)) y)) k
+unfolding closedGaps setMissing
+closed-front k t apart =
+    every-same _ _ k (λ y m. ap not (same-sums (setMissing k) (setMissing (k ++ t)) y
+    (λ a b a-pos b-pos sum a-in b-in. every-append _ k t ∙ and-eq-true-iff (setMissing k a) (setMissing t a) .1
+    (a-in, is-true (setMissing t a) (λ e. omega (arith, apart y a m (missing-iff t a .0 e)))))
+    (λ a b a-pos b-pos sum a-in b-in. and-eq-true-iff (setMissing k a) (setMissing t a) .0 (sym (every-append _ k t) ∙ a-in) .0)))
+
 -- one gap more behind smaller ones: closed where the list was and the new gap is no sum of two positive elements
 pub closed-more : (k : List ℕ) (x : ℕ) → ((y : ℕ) → List·Memᴰ y k → y < x) → closedGaps (k ++ x ∷ []) ≡ (closedGaps k && not (sumOfTwo (setMissing k) x))
 unfolding closedGaps every
 closed-more k x h =
-    let p : ℕ → Bool = λ y. not (sumOfTwo (setMissing k) y) in
-    let q : ℕ → Bool = λ y. not (sumOfTwo (without x (setMissing k)) y) in
-    ap (λ (S : Set). every (λ y. not (sumOfTwo S y)) (k ++ x ∷ [])) (fun-ext (missing-more k x))
-    ∙ every-append q k (x ∷ [])
-    ∙ ap₂ _&&_ (every-same q p k (λ y m. ap not (sums-below x (setMissing k) y (omega (arith, h y m)))))
-    (and-true (q x) ∙ ap not (sums-below x (setMissing k) x (omega arith)))
+    let p : ℕ → Bool = λ y. not (sumOfTwo (setMissing (k ++ x ∷ [])) y) in
+    every-append p k (x ∷ [])
+    ∙ ap₂ _&&_ (sym (closed-front k (x ∷ []) (λ y z m n. omega (arith, h y m, List·Memᴰ·eq-of-singleton n))))
+    (and-true (p x) ∙ ap (λ (S : Set). not (sumOfTwo S x)) (fun-ext (missing-more k x)) ∙ ap not (sums-below x (setMissing k) x (omega arith)))
 
 -- a rising list of positive numbers is closed just where it is the gap list of a numerical semigroup
 pub closed-gaps-iff : (l : List ℕ) → Ordered _<_ l → ((x : ℕ) → List·Memᴰ x l → 0 < x) → (closedGaps l ≡ true) ↔ NumericalSemigroup (setMissing l)

@@ -1,15 +1,19 @@
--- The first of a list, where there is one; and of a list of all sets with a property, in list order. Assumes nothing.
-use Prim.Native.Nat.{ℕ}
+-- The first of a list, where there is one: the least of a rising list that passes a test, and the first of a list of all sets with a property, in
+-- list order. Assumes nothing.
+use Prim.Native.Nat.{ℕ, _≤_, _<_}
 use mathlib.Core.Path.{_≡_, refl, sym, _∙_, ap, subst, fun-ext}
 use mathlib.Core.Logic.{inl, inr, _↔_, ⊎-elim}
+use mathlib.Core.Bool.{Bool, true, false}
 use mathlib.Core.List.{List, [], _∷_, _++_, head?, List·Memᴰ, List·Memᴰ·head, List·Memᴰ·not-nil, List·Memᴰ·cases-cons}
 use mathlib.Core.Option.{none, some, Option·none-ne-some, Option·some-injective}
-use Rattle.words.specs.Lists.{Ordered}
+use native.Mathlib.Omega.{arith}
+use Rattle.words.specs.Lists.{keep, Ordered}
 use Rattle.words.specs.Sets.{Set, GapsOf}
 use Rattle.words.specs.Words.{setOf, gaps}
 use Rattle.words.specs.GenusList.{AllOf, FirstInOrder, Before, Earlier}
-use Rattle.words.proofs.Lists.{nothing}
-use Rattle.words.proofs.Kept.{ordered-first}
+use Rattle.words.proofs.Booleans.{is-false}
+use Rattle.words.proofs.Lists.{nothing, keep-mem, mem-keep, ordered-keep}
+use Rattle.words.proofs.Kept.{keep-none, ordered-first}
 use Rattle.words.proofs.Sets.{gaps-unique}
 use Rattle.words.proofs.Words.{gaps-of, same-set}
 use Rattle.words.proofs.ListOrder.{before-asym}
@@ -38,6 +42,31 @@ module _ {A : Type 0} where
   pub head-only : {x : A} (l : List A) → List·Memᴰ x l → ((y : A) → List·Memᴰ y l → y ≡ x) → head? l ≡ some x
   head-only [] m h = absurd (List·Memᴰ·not-nil m)
   head-only (y ∷ l) m h = ap some (h y (List·Memᴰ·head refl))
+
+-- ---- the least of a rising list that passes a test
+
+module _ (p : ℕ → Bool) (l : List ℕ) where
+  -- there is none just where none passes
+  pub least-none : (head? (keep p l) ≡ none) ↔ ((x : ℕ) → List·Memᴰ x l → p x ≡ false)
+  least-none = (
+    λ e x m. is-false (p x) (λ t. List·Memᴰ·not-nil (subst (List·Memᴰ x) (head-none (keep p l) e) (mem-keep p l m t))),
+    λ never. ap head? (keep-none p l never),
+  )
+
+  -- else it passes, and none that passes is smaller
+  pub least-some : Ordered _<_ l
+      → (x : ℕ) → (head? (keep p l) ≡ some x) ↔ (List·Memᴰ x l × (p x ≡ true) × ((y : ℕ) → List·Memᴰ y l → p y ≡ true → x ≤ y))
+  unfolding Ordered
+  least-some o x =
+      let rising = ordered-keep _<_ p l o in (
+        λ e.
+            let (t, s) = head-some (keep p l) e in
+            let (m, pass) = keep-mem p l (subst (List·Memᴰ x) (sym s) (List·Memᴰ·head refl)) in
+            let later = subst (Ordered _<_) s rising .0 in
+            (m, pass, λ y n q. ⊎-elim (λ same. omega arith) (λ i. omega (arith, later y i)) (List·Memᴰ·cases-cons (subst (List·Memᴰ y) s (mem-keep p l n q)))),
+        λ (m, pass, least).
+            ap head? (ordered-first _<_ (keep p l) rising (mem-keep p l m pass) (λ y n b. let (i, q) = keep-mem p l n in omega (arith, least y i q)) .1),
+      )
 
 -- ---- a list of all sets with P, in list order
 

@@ -9,7 +9,7 @@ use native.Mathlib.Omega.{arith}
 use native.Mathlib.Nat.{add-zero, zero-add, suc-add, add-suc, eq-or-lt-of-le, le-of-eq, le-trans, le-of-lt, le-dest, pow-suc, mul-zero, mul-suc}
 use native.Mathlib.Numerals.{add-one}
 use native.Mathlib.Decide.{ℕ-discrete}
-use lib.Dec.{eqb, ltb}
+use lib.Dec.{eqb, ltb, leb, leb·zero, leb·suc-zero, leb·suc-suc}
 use lib.ListN.{length, getD, take, drop, set, replicate, length-append, length-take, length-drop, length-replicate, replicate-append-replicate, take-append-drop, drop-of-length-le, List·getD-append}
 use lib.Pow.{pow-mono}
 use lib.Seq.{take-append-seam, drop-append-seam, set-append-seam, drop-cons, drop-append-add, drop-drop, drop-at, take-suc, sets, getD-append-add, getD-drop}
@@ -178,6 +178,20 @@ module _ {A : Type 0} where
   every-append p [] l = refl
   every-append p (x ∷ k) l = ap (λ (b : Bool). p x && b) (every-append p k l) ∙ sym (and-assoc (p x) (every p k) (every p l))
 
+  -- where all pass, the first n do
+  pub every-take : (p : A → Bool) (l : List A) → every p l ≡ true → (n : ℕ) → every p (take n l) ≡ true
+  every-take p l pass n =
+      and-eq-true-iff (every p (take n l)) (every p (drop n l)) .0 (sym (every-append p (take n l) (drop n l)) ∙ ap (every p) (take-append-drop n l) ∙ pass) .0
+
+  -- the first n of a list in which x is the first that fails: all of them pass just where x is not among them
+  pub every-front : (p : A → Bool) (k t : List A) (x : A) → every p k ≡ true → p x ≡ false → (n : ℕ) → every p (take n (k ++ x ∷ t)) ≡ leb n (length k)
+  unfolding every
+  every-front p k t x pass fail zero = sym (leb·zero (length k))
+  every-front p [] t x pass fail (suc n) = rw (fail, leb·suc-zero)
+  every-front p (y ∷ k) t x pass fail (suc n) =
+      let (first, others) = and-eq-true-iff (p y) (every p k) .0 pass in
+      rw (first, leb·suc-suc) (every-front p k t x others fail n)
+
   -- does one of l pass p, or does x, behind it
   pub some-more : (p : A → Bool) (l : List A) (x : A) → not (every (λ a. not (p a)) (l ++ x ∷ [])) ≡ (not (every (λ a. not (p a)) l) || p x)
   unfolding every
@@ -213,6 +227,12 @@ module _ {A : Type 0} where
   ordered-parts R (z ∷ k) l o =
       let (p, q) = ordered-parts R k l (o .1) in
       (p, λ x y m n. ⊎-elim (λ e. subst (λ (v : A). R v y) (sym e) (o .0 y (Memᴰ·append-right k n))) (λ i. q x y i n) (List·Memᴰ·cases-cons m))
+
+  -- the first part is ordered too
+  pub ordered-front : (R : A → A → Type 0) (k l : List A) → Ordered R (k ++ l) → Ordered R k
+  unfolding Ordered
+  ordered-front R [] l o = tt
+  ordered-front R (x ∷ k) l o = (λ y m. o .0 y (Memᴰ·append-left l m), ordered-front R k l (o .1))
 
   -- R is asymmetric: it holds one way round only
   module _ (R : A → A → Type 0) (asym : (x y : A) → R x y → R y x → ⊥) where
@@ -478,13 +498,23 @@ first-least [] x d o m least = absurd (List·Memᴰ·not-nil m)
 first-least (y ∷ l) x d o (List·Memᴰ·head e) least = sym e
 first-least (y ∷ l) x d o (List·Memᴰ·tail m) least = absurd (omega (arith, o .0 x m, least y (List·Memᴰ·head refl)))
 
+-- the first is the least
+pub least-first : {x : ℕ} (l : List ℕ) (d : ℕ) → Ordered _<_ l → List·Memᴰ x l → List·Memᴰ (getD l 0 d) l × ((y : ℕ) → List·Memᴰ y l → getD l 0 d ≤ y)
+unfolding Ordered
+least-first [] d o m = absurd (List·Memᴰ·not-nil m)
+least-first (z ∷ l) d o m = (List·Memᴰ·head refl, λ y n. ⊎-elim (λ e. omega arith) (λ i. omega (arith, o .0 y i)) (List·Memᴰ·cases-cons n))
+
 -- ---- one number or one member more
+
+-- what passes among numbers in a row is what passes among the first of them and among the others
+pub keep-run : (p : ℕ → Bool) (a m n : ℕ) → keep p (run a (m + n)) ≡ keep p (run a m) ++ keep p (run (a + m) n)
+keep-run p a m n = ap (keep p) (run-append a m n) ∙ keep-append p (run a m) (run (a + m) n)
 
 -- what passes among one number more
 module _ (p : ℕ → Bool) (a n : ℕ) where
   keep-more : keep p (run a (n + 1)) ≡ keep p (run a n) ++ keep p ((a + n) ∷ [])
   unfolding run
-  keep-more = ap (keep p) (run-append a n 1) ∙ keep-append p (run a n) ((a + n) ∷ [])
+  keep-more = keep-run p a n 1
 
   pub keep-more-in : p (a + n) ≡ true → keep p (run a (n + 1)) ≡ keep p (run a n) ++ (a + n) ∷ []
   unfolding keep

@@ -1,11 +1,13 @@
 // Gap words: the counts that belong to them, the refusals of the atlas, and looking at a word; and a question about lists of bytes.
-ghost use Prim.Native.Nat.{_+_, _-_, _^_, min};
+ghost use Prim.Native.Nat.{_+_, _-_, _%_, _^_, min};
 ghost use mathlib.Core.Path.{_≡_};
 ghost use lib.Dec.{ltb};
 ghost use Rattle.words.specs.Lists.{every};
 ghost use Rattle.words.specs.Words.{genus, conductor, closed};
 ghost use Rattle.words.specs.Elements.{multiplicity};
-ghost use Rattle.words.specs.Answers.{numberOf, looked, reportOf, lookOf};
+ghost use Rattle.words.specs.Openings.{openingOf};
+ghost use Rattle.words.specs.GapSums.{leastGapSum};
+ghost use Rattle.words.specs.Answers.{numberOf, sought, looked, reportOf, lookOf};
 
 // An element of a set.
 pub struct Element(pub u64);
@@ -177,17 +179,46 @@ pub fn conductor_of(word: u64) -> u64
     conductor_and_multiplicity(word).conductor
 }
 
-// Is the set closed under addition? The positive elements moved up by an element `a` are sums, none of which may be a gap.
+// The gaps of any word below the least one that is a sum of two positive elements, as a word; all of them where there is none. An element `a`
+// moves the positive elements up, and the gaps below the lowest of these sums that is a gap are left. The elements are tried in rising
+// order, as long as a gap of at least twice `a` is left: of two summands one is at most half of their sum. Where 1 is an element no gap is
+// left: the least is the sum of 1 and the element before it.
+fn possible_gaps(word: u64) -> u64
+    ensures { λ r. ⌜ r ≡ word % 2 ^ (leastGapSum word - 1) ⌝ }
+{
+    if word & 1 == 0 {
+        return 0;
+    }
+    let elements = !word;
+    let mut left = word;
+    let mut a = multiplicity_of(word);
+    while a <= 32 && left >> (2 * a - 1) > 0 {
+        let sums = (elements << a) & left;
+        if sums != 0 {
+            left &= (1 << (u64::trailing_zeros(sums) as u64)) - 1;
+        }
+        a += u64::trailing_zeros(elements >> a) as u64 + 1;
+    }
+    left
+}
+
+// Is the set closed under addition? Then no gap is a sum of two positive elements.
 fn is_closed(word: u64) -> bool
     ensures { λ r. ⌜ r ≡ closed word ⌝ }
 {
-    let elements = !word;
-    for a in 1..64u64 {
-        if elements >> (a - 1) & 1 == 1 && (elements << a) & word != 0 {
-            return false;
-        }
+    possible_gaps(word) == word
+}
+
+// The shortest impossible opening of any word, with any number of gaps: the least n such that the n smallest gaps are not the gaps of a
+// semigroup, or that there is none. The last of these gaps is the least one that is a sum of two positive elements.
+pub fn opening(word: u64) -> Found
+    ensures { λ r. ⌜ sought r ≡ openingOf word ⌝ }
+{
+    let left = possible_gaps(word);
+    if left == word {
+        return Found::Nothing;
     }
-    true
+    Found::Number(genus_of(left) + 1)
 }
 
 // What is told of any word, accepted or not: the word 0 has no gap, and of every other word the reported conductor is that of source 000.
