@@ -9,10 +9,10 @@
    tables and children are counted by the conductor of the seeds paper: the largest gap plus 1, and 1 for the word 0, whose seed table has
    one entry and whose child is at 1. Below, "the conductor" is the paper's unless it is called reported.
 
-   No call asks anything of its arguments, and every call returns. In each answer `refused` comes first: 0 for an answer, otherwise the
-   number of the refusal, and then all values are 0, no list is written, and a walk or a list that changes comes back as it was given. A
-   list is a pointer and a length; a list of length 0 may have any pointer that is not null. Lists that are lent for writing must not be
-   touched by others during the call.
+   No call asks anything of its arguments, and every call returns. In each answer but those of atlas_opening and atlas_editor_empty, which
+   refuse nothing, `refused` comes first: 0 for an answer, otherwise the number of the refusal, and then all values are 0, no list is
+   written, and a walk or a list that changes comes back as it was given. A list is a pointer and a length; a list of length 0 may have any
+   pointer that is not null. Lists that are lent for writing must not be touched by others during the call.
 
    Refusals: 1 more than 32 gaps; 2 not closed under addition; 3 genus (of a child: one more than the word's) above 32; 4 a walk that is
    neither finished with word 0 nor unfinished on an accepted word of its genus in its window, a finished byte other than 0 and 1, or a
@@ -53,6 +53,12 @@ typedef struct {
   bool found;
   uint64_t word;
 } atlas_found;
+
+/* Whether there is an impossible opening, and how many gaps the shortest has; 0 where there is none. */
+typedef struct {
+  bool found;
+  uint64_t length;
+} atlas_shortest;
 
 /* What is told of an accepted word: the conductor here is the reported one, and the largest gap is one less. */
 typedef struct {
@@ -107,6 +113,10 @@ typedef struct {
 
 /* Genus, multiplicity, reported conductor and largest gap of a word; 0, 1, 0 and -1 for the word 0. Refusals 1, 2. */
 atlas_report atlas_look(uint64_t word);
+
+/* The shortest impossible opening of a word, with any number of gaps: the least n such that its n smallest gaps are not the gaps of a
+   semigroup. There is none exactly when the set of the word is closed under addition. No refusal. */
+atlas_shortest atlas_opening(uint64_t word);
 
 /* The seed table of a word: bit l is entry l of the joined rows, and the bits from the conductor up are clear. The number beside it is that of
    the word's children, the elements at which atlas_child answers, up to genus 31; at genus 32 it is given too, although every child is

@@ -1,5 +1,5 @@
--- Answers as the structs that C callers get: the number of a refusal first, 0 for an answer, then the values, 0 where refused.
--- Assumes nothing: these are definitions.
+-- Answers as the structs that C callers get: of a call that can be refused the number of the refusal first, 0 for an answer, then the values,
+-- 0 where refused. Assumes nothing: these are definitions.
 use Prim.Native.Nat.{ℕ}
 use mathlib.Core.Bool.{Bool, true, false, cond, _||_}
 use mathlib.Core.List.{List, [], _∷_}
@@ -17,6 +17,7 @@ use Rattle.walk.specs.Walks.{Ending, batchOf}
 use Rattle.atlas.specs.declared.AtlasNumber.{AtlasNumber}
 use Rattle.atlas.specs.declared.AtlasTable.{AtlasTable}
 use Rattle.atlas.specs.declared.AtlasFound.{AtlasFound}
+use Rattle.atlas.specs.declared.AtlasShortest.{AtlasShortest}
 use Rattle.atlas.specs.declared.AtlasReport.{AtlasReport}
 use Rattle.atlas.specs.declared.AtlasWalk.{AtlasWalk}
 use Rattle.atlas.specs.declared.AtlasBegun.{AtlasBegun}
@@ -39,6 +40,11 @@ abbrev pub foundIn : Answer (Option ℕ) → AtlasFound
 foundIn (refused n) = record { refused = n; found = false; word = 0 }
 foundIn (given none) = record { refused = 0; found = false; word = 0 }
 foundIn (given (some w)) = record { refused = 0; found = true; word = w }
+
+-- the shortest impossible opening: whether there is one, and how many gaps it has
+abbrev pub shortestIn : Option ℕ → AtlasShortest
+shortestIn none = record { found = false; length = 0 }
+shortestIn (some n) = record { found = true; length = n }
 
 -- what is told of a word
 abbrev pub reportIn : Answer Report → AtlasReport

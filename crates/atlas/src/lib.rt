@@ -1,9 +1,11 @@
-// The calls of the atlas for callers in C and in languages that call C. An answer is a struct by value: first the number of the
-// refusal, 0 where there is none, then the values, all 0 where the call is refused. A list is a pointer and a length.
+// The calls of the atlas for callers in C and in languages that call C. An answer is a struct by value: first, of a call that can be
+// refused, the number of the refusal, 0 where there is none, then the values, all 0 where the call is refused. A list is a pointer and a
+// length.
 ghost use mathlib.Core.Path.{_≡_};
 ghost use mathlib.Core.Bool.{true};
 ghost use mathlib.Core.List.{[]};
-ghost use Rattle.words.specs.Answers.{answered, soughtAnswered, looked, lookOf, numberOf};
+ghost use Rattle.words.specs.Openings.{openingOf};
+ghost use Rattle.words.specs.Answers.{answered, sought, soughtAnswered, looked, lookOf, numberOf};
 ghost use Rattle.tables.specs.Answers.{tabled, tableOf, childOf, grandchildrenOf};
 ghost use Rattle.walk.specs.Answers.{begun, reported};
 ghost use Rattle.walk.specs.Walks.{freshOf, freshInOf, startOf, startInOf, countOf, firstDescendantOf};
@@ -14,7 +16,7 @@ ghost use Rattle.census.specs.Census.{censusOf};
 ghost use Rattle.search.specs.Wanted.{findOf};
 ghost use Rattle.editor.specs.Changes.{addition, removal};
 ghost use Rattle.editor.specs.States.{said, stateOf, told};
-ghost use Rattle.atlas.specs.Interface.{numberIn, tableIn, foundIn, reportIn, walkIn, begunIn, unmovedIn, movedIn, batchIn, editorIn, editorFrom, answerFrom, unchangedIn, changedIn, changeIn};
+ghost use Rattle.atlas.specs.Interface.{numberIn, tableIn, foundIn, shortestIn, reportIn, walkIn, begunIn, unmovedIn, movedIn, batchIn, editorIn, editorFrom, answerFrom, unchangedIn, changedIn, changeIn};
 ghost use Rattle.atlas.specs.Private.{isKept};
 use editor::ChangeAnswer;
 use editor::Changed;
@@ -51,6 +53,13 @@ pub struct AtlasFound {
     pub refused: u64,
     pub found: bool,
     pub word: u64,
+}
+
+// Whether there is an impossible opening, and the number of gaps of the shortest.
+#[repr(C)]
+pub struct AtlasShortest {
+    pub found: bool,
+    pub length: u64,
 }
 
 // What is told of a word, or the number of a refusal. The conductor is the reported one.
@@ -156,6 +165,22 @@ fn found_of(answer: FoundAnswer) -> AtlasFound
                 found: false,
                 word: 0,
             },
+        },
+    }
+}
+
+// The shortest impossible opening, as they get it.
+fn shortest_of(found: Found) -> AtlasShortest
+    ensures { λ r. ⌜ r ≡ shortestIn (sought found) ⌝ }
+{
+    match found {
+        Found::Number(length) => AtlasShortest {
+            found: true,
+            length,
+        },
+        Found::Nothing => AtlasShortest {
+            found: false,
+            length: 0,
         },
     }
 }
@@ -329,6 +354,15 @@ pub extern "C" fn atlas_look(word: u64) -> AtlasReport
     ensures { λ r. ⌜ r ≡ reportIn (lookOf word) ⌝ }
 {
     report_of(words::look(word))
+}
+
+// The least n such that the n smallest gaps of a word, with any number of gaps, are not the gaps of a semigroup, or that there is none. No
+// question.
+#[no_mangle]
+pub extern "C" fn atlas_opening(word: u64) -> AtlasShortest
+    ensures { λ r. ⌜ r ≡ shortestIn (openingOf word) ⌝ }
+{
+    shortest_of(words::opening(word))
 }
 
 // The seed table of a word, and the number of generators not below the conductor, which are the 1s in row 0. Questions 1, 2.
