@@ -1,5 +1,5 @@
-// Runs further cases of the papers on gap words, seed tables, children, windows of multiplicities, searches and descendants, and prints what
-// the calls answer. What it prints is held to the stored file: the tables of the descendants of example 1.4 worked by hand by lemma 3.1, the rest
+// Runs further cases of the papers on gap words, openings, seed tables, children, windows of multiplicities, searches and descendants, and
+// prints what the calls answer. What it prints is held to the stored file: the tables of the descendants of example 1.4 worked by hand by lemma 3.1, the rest
 // computed apart from the plain definitions. The marked cases are proved: proofs/Marked.antt.
 use libc::STDOUT_FILENO;
 use tables::TableAnswer;
@@ -65,6 +65,14 @@ fn fields_of(report: Report) {
     signed_field(report.largest_gap);
 }
 
+// A number that was looked for, or that there is none.
+fn found_number(f: Found) {
+    match f {
+        Found::Number(n) => field(n),
+        Found::Nothing => text(b" none"),
+    }
+}
+
 fn show_look(word: u64) {
     text(b"look");
     field(word);
@@ -94,6 +102,15 @@ fn show_both(word: u64) {
     let both = words::conductor_and_multiplicity(word);
     field(both.conductor);
     field(both.multiplicity);
+    end();
+}
+
+// How many gaps the shortest impossible opening of a word has.
+fn show_opening(word: u64) {
+    text(b"opening");
+    field(word);
+    text(b":");
+    found_number(words::opening(word));
     end();
 }
 
@@ -192,6 +209,25 @@ fn reported_numbers() {
     show_child(0, 2);
 }
 
+// Openings of 13, 2 and 0, of closed sets with up to 64 gaps, of words that are impossible at their second, their middle and their last gap, one
+// gap alone, and words with more than 32 gaps that are not closed: but 21, and but 32, whose only sum that is a gap is 64.
+fn openings() {
+    show_opening(13);
+    show_opening(2);
+    show_opening(0);
+    show_opening(4294967295);
+    show_opening(8589934591);
+    show_opening(9223372045444710399);
+    show_opening(18446744073709551615);
+    show_opening(9);
+    show_opening(427392895);
+    show_opening(427392879);
+    show_opening(9223372039002259455);
+    show_opening(9223372036854775808);
+    show_opening(18446744073708503039);
+    show_opening(18446744071562067967);
+}
+
 // Words and elements at the ends of their range.
 fn ends_of_range() {
     show_look(18446744073709551615);
@@ -276,10 +312,7 @@ fn windows() {
 fn found(a: FoundAnswer) {
     match a {
         FoundAnswer::Refused(r) => refusal(r),
-        FoundAnswer::Given(f) => match f {
-            Found::Number(word) => field(word),
-            Found::Nothing => text(b" none"),
-        },
+        FoundAnswer::Given(f) => found_number(f),
     }
 }
 
@@ -424,6 +457,7 @@ fn main() {
     example_of_001();
     any_word();
     reported_numbers();
+    openings();
     ends_of_range();
     windows();
     searches();
