@@ -1,7 +1,8 @@
 -- Known semigroups: the genus lists of genus 0 to 4 and the numbers of semigroups of genus 0 to 8, computed by the tree, cuts of a genus list,
 -- and looks at words and the conductors and multiplicities of any words, computed from the definition. Assumes nothing.
-use Prim.Native.Nat.{ℕ, _+_, _<_}
+use Prim.Native.Nat.{ℕ, _+_, _^_, _<_}
 use mathlib.Core.Path.{_≡_, refl, sym, _∙_, ap}
+use mathlib.Core.Bool.{true}
 use mathlib.Core.List.{List, [], _∷_, map}
 use mathlib.Core.Option as option
 use native.Mathlib.Omega.{arith}
@@ -14,12 +15,16 @@ use Rattle.words.specs.Words.{bit, setOf, gaps, genus, largestGap, condu
 use Rattle.words.specs.Elements.{multiplicity, generator, rightGenerators}
 use Rattle.words.specs.GenusList.{genusList, descendants}
 use Rattle.words.specs.GapLists.{setMissing, closedGaps}
+use Rattle.words.specs.GapSums.{gapSums, leastGapSum}
 use Rattle.words.specs.Openings.{smallestGaps, openingOf}
 use Rattle.words.specs.Answers.{refused, given, askWord, reportOf, lookOf}
 use Rattle.words.proofs.Lists.{map-run, getD-map-run}
 use Rattle.words.specs.Tree.{leaves}
 use Rattle.words.specs.Relatives.{comesBefore, wordsBefore, wordsAfter}
 use Rattle.words.proofs.Leaves.{genus-list-leaves}
+use Rattle.words.proofs.Closure.{closed-iff}
+use Rattle.words.proofs.GapSums.{least-gap-sum}
+use Rattle.words.proofs.Openings.{opening-none, opening-least}
 
 -- the genus lists of genus 0 to 4
 abbrev pub knownLists : List (List ℕ)
@@ -74,6 +79,14 @@ known-openings = refl
 
 -- and with more than 32 gaps: of all gaps up to 64 and of the gaps 1 to 33 and 64, whose sets are closed under addition, and of all gaps up to 64
 -- but 21, of which 42 and 63 are sums of 21
-pub known-long-openings : map openingOf (18446744073709551615 ∷ 9223372045444710399 ∷ 18446744073708503039 ∷ []) ≡ option.none ∷ option.none ∷ option.some 41 ∷ []
-unfolding run keep keepIf every sumOfTwo bit setOf gaps genus setMissing closedGaps smallestGaps openingOf
-known-long-openings = refl
+pub known-long-openings : (openingOf 18446744073709551615 ≡ option.none) × (openingOf 9223372045444710399 ≡ option.none)
+    × (openingOf 18446744073708503039 ≡ option.some 41)
+unfolding run keep keepIf every sumOfTwo bit setOf gaps genus closed gapSums leastGapSum
+known-long-openings = (
+  closed-opening 18446744073709551615 (omega arith) refl,
+  closed-opening 9223372045444710399 (omega arith) refl,
+  opening-least 18446744073708503039 (omega arith) 42 (least-gap-sum 18446744073708503039 (omega arith) refl),
+)
+  where
+    closed-opening : (w : ℕ) → w < 2 ^ 64 → closed w ≡ true → openingOf w ≡ option.none
+    closed-opening w fits c = opening-none w fits .1 (closed-iff w fits .0 c)

@@ -202,7 +202,7 @@ fn possible_gaps(word: u64) -> u64
     left
 }
 
-// Is the set closed under addition? Then no gap is a sum of two positive elements.
+// Is the set closed under addition? It is where all gaps are left, as none is a sum of two positive elements.
 fn is_closed(word: u64) -> bool
     ensures { λ r. ⌜ r ≡ closed word ⌝ }
 {

@@ -21,6 +21,7 @@ use Rattle.words.proofs.possible_gaps.Tie as tie
 abbrev Inv-loop : tie.InvT-loop
 Inv-loop word elements left₀ a₀ left a = Tried word a left
 
+-- in the loop `a` is at most 32, and the next element at most 65 above it
 abbrev μ-loop : tie.MeasureT-loop
 μ-loop word elements left₀ a₀ left a = 97 - a
 
@@ -36,7 +37,10 @@ multiplicity-of-requires : tie.Need-multiplicity-of-requires Inv-loop μ-loop
 multiplicity-of-requires c κs = search needs
 
 loop-holds : tie.Need-loop-holds Inv-loop μ-loop
-loop-holds c = subst (λ (m : ℕ). Tried (c .before .before .args .word) m (c .before .before .args .word)) (sym (c .multiplicity-of .ensures)) (tried-none (c .before .before .args .word) (c .before .before .fits .word .fits))
+loop-holds c =
+    let start = c .before .before in
+    let w : ℕ = start .args .word in
+    subst (λ (m : ℕ). Tried w m w) (sym (c .multiplicity-of .ensures)) (tried-none w (start .fits .word .fits))
 
 mul-if2 : tie.Need-mul-if2 Inv-loop μ-loop
 mul-if2 c = omega arith
