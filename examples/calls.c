@@ -27,6 +27,8 @@ static bool found_is(atlas_found f, uint64_t refused, bool found, uint64_t word)
   return f.refused == refused && f.found == found && f.word == word;
 }
 
+static bool shortest_is(atlas_shortest s, bool found, uint64_t length) { return s.found == found && s.length == length; }
+
 static bool report_is(atlas_report r, uint64_t refused, uint64_t genus, uint64_t multiplicity, uint64_t conductor, int64_t largest_gap) {
   return r.refused == refused && r.genus == genus && r.multiplicity == multiplicity && r.conductor == conductor &&
          r.largest_gap == largest_gap;
@@ -48,6 +50,47 @@ static void words(void) {
   CHECK(report_is(atlas_look(of_genus_32), 0, 32, 2, 64, 63));
   CHECK(report_is(atlas_look(too_many), 1, 0, 0, 0, 0));
   CHECK(report_is(atlas_look(not_closed), 2, 0, 0, 0, 0));
+}
+
+/* The word of the n smallest gaps of a word. */
+static uint64_t smallest_gaps(uint64_t word, uint64_t n) {
+  uint64_t left = word;
+  for (; n > 0; n--) left &= left - 1;
+  return word - left;
+}
+
+/* Has the shortest impossible opening this length, at most 32, and is its word refused with 2, that of the opening one shorter accepted? */
+static bool opening_is(uint64_t word, uint64_t length) {
+  return shortest_is(atlas_opening(word), true, length) && atlas_look(smallest_gaps(word, length)).refused == 2 &&
+         atlas_look(smallest_gaps(word, length - 1)).refused == 0;
+}
+
+/* Accepted words have none, nor have closed sets with more gaps than a look takes: 1 to 33, the numbers up to 64 that 3 does not divide, and
+   1 to 64. 123 has the gaps of 91 and 6 = 3 + 3, and 1371 those of 91 with 9 = 3 + 6 and 11 = 3 + 8; 17678129737304986965 has the odd
+   numbers up to 63 with 62 = 2 + 60 and 64 = 4 + 60; 6442450943 has 1 to 31 and 33, to which 64 = 32 + 32 is added. The longest of all is
+   that of the gaps 1 to 31 and 33 to 64. */
+static void openings(void) {
+  const uint64_t no_multiples_of_3 = 13176245766935394011u, gap_63 = UINT64_C(1) << 62, gap_64 = UINT64_C(1) << 63;
+  CHECK(shortest_is(atlas_opening(0), false, 0));
+  CHECK(shortest_is(atlas_opening(1), false, 0));
+  CHECK(shortest_is(atlas_opening(91), false, 0));
+  CHECK(shortest_is(atlas_opening(4294967295), false, 0));
+  CHECK(shortest_is(atlas_opening(of_genus_32), false, 0));
+  CHECK(shortest_is(atlas_opening(too_many), false, 0) && atlas_look(too_many).refused == 1);
+  CHECK(shortest_is(atlas_opening(no_multiples_of_3), false, 0) && atlas_look(no_multiples_of_3).refused == 1);
+  CHECK(shortest_is(atlas_opening(UINT64_MAX), false, 0) && atlas_look(UINT64_MAX).refused == 1);
+  CHECK(opening_is(not_closed, 3));
+  CHECK(opening_is(2, 1));
+  CHECK(opening_is(123, 5));
+  CHECK(opening_is(1371, 6));
+  CHECK(opening_is(gap_64, 1));
+  CHECK(opening_is(17678129737304986965u, 32));
+  CHECK(opening_is(UINT64_MAX - 1, 1));
+  CHECK(opening_is(UINT64_MAX - 2, 3));
+  CHECK(shortest_is(atlas_opening(6442450943 + gap_64), true, 33) && atlas_look(6442450943).refused == 0);
+  CHECK(shortest_is(atlas_opening(of_genus_32 + gap_64), true, 33));
+  CHECK(shortest_is(atlas_opening(no_multiples_of_3 + gap_63), true, 43));
+  CHECK(shortest_is(atlas_opening(UINT64_MAX - 2147483648), true, 63));
 }
 
 /* The semigroup without gaps by both conventions (atlas.h): reported are conductor 0 and largest gap -1; by the paper's conductor, 1, its
@@ -397,6 +440,7 @@ static void census_sums(void) {
 
 int main(void) {
   words();
+  openings();
   both_conventions();
   tables();
   children();
