@@ -1,9 +1,10 @@
-//! Random calls of the atlas, valid and damaged, walks of all small windows, searches in all small genera, the census of every genus and all
-//! short histories of a list of generators, against an implementation from the plain definitions: sets of numbers, sums of two elements, gap
-//! lists. It uses no seed tables but those of definition 1.3, and no bit tricks but in the censuses of genus 19 and above, which are made by
-//! counts of leading and trailing bits. Searches and censuses in these genera are held to the lists of the atlas's own walk, the sums over each
-//! census to its count and its elementary counts, and the grandchildren of all words of three genera, together, to the known numbers of
-//! semigroups two genera on. Prints the seed, the number of calls of each kind and the number of differences, which must be 0.
+//! Random calls of the atlas, valid and damaged, openings of all small words, walks of all small windows, searches in all small genera, the
+//! census of every genus and all short histories of a list of generators, against an implementation from the plain definitions: sets of
+//! numbers, sums of two elements, gap lists. It uses no seed tables but those of definition 1.3, and no bit tricks but in the censuses of
+//! genus 19 and above, which are made by counts of leading and trailing bits. Searches and censuses in these genera are held to the lists of
+//! the atlas's own walk, the sums over each census to its count and its elementary counts, and the grandchildren of all words of three
+//! genera, together, to the known numbers of semigroups two genera on. Prints the seed, the number of calls of each kind and the number of
+//! differences, which must be 0.
 
 use std::collections::HashMap;
 
@@ -70,6 +71,13 @@ struct Found {
 
 #[repr(C)]
 #[derive(Clone, Copy, PartialEq, Debug)]
+struct Shortest {
+    found: bool,
+    length: u64,
+}
+
+#[repr(C)]
+#[derive(Clone, Copy, PartialEq, Debug)]
 struct Editor {
     bytes: [u8; 16],
     length: usize,
@@ -85,6 +93,7 @@ struct Changed {
 
 extern "C" {
     fn atlas_look(word: u64) -> Report;
+    fn atlas_opening(word: u64) -> Shortest;
     fn atlas_seed_table(word: u64) -> Table;
     fn atlas_child(word: u64, element: u64) -> Number;
     fn atlas_grandchildren(word: u64) -> Number;
@@ -254,6 +263,21 @@ fn grandchildren(word: u64) -> u64 {
         }
     }
     count
+}
+
+/// For n from 0 to the number of gaps of a word: are its n smallest gaps those of a semigroup?
+fn possible_openings(word: u64) -> Vec<bool> {
+    let gaps = gaps(word);
+    (0..=gaps.len()).map(|n| closed_list(&gaps[..n])).collect()
+}
+
+/// The shortest impossible opening by such a list: the least n at which it says no.
+fn shortest(possible: &[bool]) -> Shortest {
+    let impossible = possible.iter().position(|p| !p);
+    Shortest {
+        found: impossible.is_some(),
+        length: impossible.unwrap_or(0) as u64,
+    }
 }
 
 fn minimal_generators(word: u64) -> Vec<u8> {
@@ -1517,6 +1541,82 @@ fn censuses(words: &Words, r: &mut Random) -> Kind {
     kind
 }
 
+/// A word with more than 32 gaps whose set is closed: all numbers up to one are gaps, and from there to another most of those with which the set
+/// stays closed.
+fn many_gaps(r: &mut Random) -> u64 {
+    loop {
+        let mut list: Vec<u64> = (1..=1 + r.below(64)).collect();
+        for x in list.len() as u64 + 1..=33 + r.below(32) {
+            list.push(x);
+            if r.below(8) == 0 || !closed_list(&list) {
+                list.pop();
+            }
+        }
+        if list.len() > 32 {
+            return word_of(&list);
+        }
+    }
+}
+
+/// The word with one more gap above its largest, unless that is 64.
+fn gap_above(word: u64, r: &mut Random) -> u64 {
+    let lowest = conductor(word).min(64);
+    word | 1 << (lowest - 1 + r.below(65 - lowest))
+}
+
+/// A word with any number of gaps: random with few or many, all gaps up to one with up to three bits flipped, a semigroup or a closed set with
+/// more than 32 gaps, and these with a bit flipped or with a gap above.
+fn word_with_any_gaps(words: &Words, r: &mut Random) -> u64 {
+    match r.below(10) {
+        0 => r.next(),
+        1 => (0..1 + r.below(4)).fold(r.next(), |w, _| w & r.next()),
+        2 => (0..1 + r.below(4)).fold(r.next(), |w, _| w | r.next()),
+        3 => (0..r.below(4)).fold(u64::MAX >> r.below(64), |w, _| w ^ 1 << r.below(64)),
+        4 => gap_above(words.valid(r), r),
+        5 | 6 => words.any_or_last(r),
+        7 => many_gaps(r),
+        8 => many_gaps(r) ^ 1 << r.below(64),
+        _ => gap_above(many_gaps(r), r),
+    }
+}
+
+/// The shortest impossible opening of a word, and its laws: there is none just where a look does not refuse the word with 2 and its set is
+/// closed; every shorter opening is possible, and no longer one is. Gives the plain answer.
+fn one_opening(word: u64, kind: &mut Kind) -> Shortest {
+    let possible = possible_openings(word);
+    let plain = shortest(&possible);
+    let answer = unsafe { atlas_opening(word) };
+    kind.same(answer, plain, &|| word.to_string());
+    let none = unsafe { atlas_look(word) }.refused != 2 && closed(word);
+    let shorter = (0..possible.len() as u64).map(|n| !answer.found || n < answer.length).collect();
+    kind.same((!answer.found, shorter), (none, possible), &|| format!("{word}, laws"));
+    plain
+}
+
+/// The openings of every word below 2^20, and of all words with one gap, with all gaps but one and with all gaps up to one.
+fn small_openings() -> Kind {
+    let mut kind = Kind::new("opening and its laws, of every small word");
+    let each = (0..64).flat_map(|i| [1 << i, u64::MAX - (1 << i), u64::MAX >> i]);
+    for w in (0..1 << 20).chain(each) {
+        one_opening(w, &mut kind);
+    }
+    kind
+}
+
+/// Openings of random words; none, one and one that ends with the largest gap are met, of words with at most 32 gaps and of words with more.
+fn openings(n: u64, words: &Words, r: &mut Random) -> Kind {
+    let mut kind = Kind::new("opening and its laws");
+    let mut met = [[0u64; 3]; 2];
+    for _ in 0..n {
+        let w = word_with_any_gaps(words, r);
+        let plain = one_opening(w, &mut kind);
+        let genus = gaps(w).len() as u64;
+        met[(genus > 32) as usize][plain.found as usize + (plain.length == genus && plain.found) as usize] += 1;
+    }
+    assert!(met.iter().flatten().all(|&q| q > n / 100), "each answer is met: {met:?}");
+    kind
+}
+
 fn main() {
     let seed = std::env::args().nth(1).map_or(20261115, |s| s.parse().expect("a seed is a number"));
     let mut r = Random(seed | 1);
@@ -1591,6 +1691,8 @@ fn main() {
     ];
     kinds.extend(editors(12_000, &words, &mut r));
     kinds.push(censuses(&words, &mut r));
+    kinds.push(small_openings());
+    kinds.push(openings(60_000, &words, &mut r));
     println!("seed {seed}");
     for kind in &kinds {
         println!("{:>9} calls of {}: {} differences", kind.calls, kind.name, kind.differences);

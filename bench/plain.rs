@@ -1,5 +1,5 @@
 //! The tree of semigroups by seed tables in plain Rust, as one would write it for speed without proofs: children by the bits of
-//! the table's first row, the last level without tables.
+//! the table's first row, the last level without tables. And a look at a word that tries every element for its sums.
 #![crate_type = "staticlib"]
 
 #[derive(Clone, Copy)]
@@ -110,4 +110,42 @@ pub unsafe extern "C" fn plain_walk(genus: u32, words: *mut u64, length: usize, 
     sink.flush();
     *mixed = sink.mixed;
     sink.total
+}
+
+/// What is told of a word, or the number of a refusal.
+#[repr(C)]
+pub struct Report {
+    refused: u64,
+    genus: u64,
+    multiplicity: u64,
+    conductor: u64,
+    largest_gap: i64,
+}
+
+fn refused(refused: u64) -> Report {
+    Report { refused, genus: 0, multiplicity: 0, conductor: 0, largest_gap: 0 }
+}
+
+/// Is no gap a sum of two positive elements? Every element is tried, up to the first that has such a sum.
+fn closed(word: u64) -> bool {
+    let elements = !word;
+    (1..64).all(|a| elements >> (a - 1) & 1 == 0 || (elements << a) & word == 0)
+}
+
+#[no_mangle]
+pub extern "C" fn plain_look(word: u64) -> Report {
+    if word.count_ones() > 32 {
+        return refused(1);
+    }
+    if !closed(word) {
+        return refused(2);
+    }
+    let conductor = if word == 0 { 0 } else { 65 - word.leading_zeros() as u64 };
+    Report {
+        refused: 0,
+        genus: word.count_ones() as u64,
+        multiplicity: word.trailing_ones() as u64 + 1,
+        conductor,
+        largest_gap: conductor as i64 - 1,
+    }
 }

@@ -1,7 +1,8 @@
 /* Speed of the atlas as ratios: the count and the whole walk of a genus by batches of 4,096 words, ours against the paper's recursive
    algorithm in C and against plain Rust, the same work on the same machine in one run; then the census of a genus, calls on every word of it,
-   the walk of it cut by ancestors, and the walk of a window of it and searches in it, against the walk of it; and changes of lists of
-   generators against calls for their words. Each time is the least of several runs. */
+   the walk of it cut by ancestors, and the walk of a window of it and searches in it, against the walk of it; looks at words of several
+   kinds against looks that try every element; and changes of lists of generators against calls for their words. Each time is the least of
+   several runs. */
 #include <inttypes.h>
 #include <stdio.h>
 #include <stdlib.h>
@@ -13,6 +14,7 @@ uint64_t paper_count(unsigned genus);
 uint64_t paper_walk(unsigned genus, uint64_t *words, size_t length, uint64_t *mixed);
 uint64_t plain_count(unsigned genus);
 uint64_t plain_walk(unsigned genus, uint64_t *words, size_t length, uint64_t *mixed);
+atlas_report plain_look(uint64_t word);
 
 enum { LENGTH = 4096, RUNS = 5 };
 static uint64_t words[LENGTH];
@@ -84,10 +86,35 @@ static uint64_t by_ancestors(unsigned genus, uint64_t *out, size_t length, uint6
   return total;
 }
 
-/* The walk of a genus with calls on each word of it. */
+/* The words on which single calls are made. */
+enum { MOST_ASKED = 1 << 19 };
+static uint64_t asked[MOST_ASKED];
+static size_t asked_count;
+
+/* All words of a genus, at most 24. */
+static void ask_genus(unsigned genus) { asked_count = atlas_batch(atlas_fresh(genus).walk, asked, MOST_ASKED).count; }
+
+/* As many random words, each made of so many by and: of one about half of the bits stand, of three eight of them. */
+static void ask_random(int parts) {
+  uint64_t random = 20261115;
+  for (size_t i = 0; i < asked_count; i++) {
+    asked[i] = UINT64_MAX;
+    for (int k = 0; k < parts; k++) {
+      random ^= random << 13, random ^= random >> 7, random ^= random << 17;
+      asked[i] &= random;
+    }
+  }
+}
+
+/* A call on a word. */
 typedef uint64_t call(uint64_t word);
 
-static uint64_t looked(uint64_t word) { return atlas_look(word).conductor; }
+/* All numbers of a look, so that none is left out. */
+static uint64_t told(atlas_report r) { return ((r.refused * 31 + r.genus) * 31 + r.multiplicity) * 31 + r.conductor + (uint64_t)r.largest_gap; }
+
+static uint64_t looked(uint64_t word) { return told(atlas_look(word)); }
+static uint64_t plainly_looked(uint64_t word) { return told(plain_look(word)); }
+static uint64_t opened(uint64_t word) { return atlas_opening(word).length; }
 
 static uint64_t coordinates(uint64_t word) {
   uint8_t list[ATLAS_MOST_COORDINATES];
@@ -109,28 +136,6 @@ static uint64_t grandchildren(uint64_t word) { return atlas_grandchildren(word).
 static uint64_t counted_on(uint64_t word) { return atlas_count(word, 26).value; }
 
 static uint64_t first_on(uint64_t word) { return atlas_first_descendant(word, 32).found; }
-
-static uint64_t called(unsigned genus, uint64_t *out, size_t length, uint64_t *mixed, call *f) {
-  uint64_t total = 0, mix = 0;
-  atlas_walk walk = atlas_fresh(genus).walk;
-  atlas_moved moved;
-  do {
-    moved = atlas_batch(walk, out, length);
-    for (size_t i = 0; i < moved.count; i++) mix += f(out[i]);
-    total += moved.count;
-    walk = moved.walk;
-  } while (!moved.refused && !moved.finished);
-  *mixed = mix;
-  return total;
-}
-
-static uint64_t walk_looked(unsigned g, uint64_t *out, size_t n, uint64_t *mixed) { return called(g, out, n, mixed, looked); }
-static uint64_t walk_coordinates(unsigned g, uint64_t *out, size_t n, uint64_t *mixed) { return called(g, out, n, mixed, coordinates); }
-static uint64_t walk_tabled(unsigned g, uint64_t *out, size_t n, uint64_t *mixed) { return called(g, out, n, mixed, tabled); }
-static uint64_t walk_grandchildren(unsigned g, uint64_t *out, size_t n, uint64_t *mixed) { return called(g, out, n, mixed, grandchildren); }
-static uint64_t walk_counted_on(unsigned g, uint64_t *out, size_t n, uint64_t *mixed) { return called(g, out, n, mixed, counted_on); }
-static uint64_t walk_first_on(unsigned g, uint64_t *out, size_t n, uint64_t *mixed) { return called(g, out, n, mixed, first_on); }
-static uint64_t walk_back(unsigned g, uint64_t *out, size_t n, uint64_t *mixed) { return called(g, out, n, mixed, coordinates_back); }
 
 /* The searches with largest gaps and multiplicities from 0 up to these. */
 enum { HIGHEST_GAP = 64, HIGHEST_MULTIPLICITY = 34 };
@@ -259,12 +264,37 @@ static void census_row(unsigned genus, double walk, uint64_t count) {
   printf("census of genus %u: %.2f of the time of the whole walk\n", genus, taken / walk);
 }
 
-/* A call on every word of a genus, without the walk itself, as a ratio to the walk; gives the sum of its numbers. */
-static uint64_t call_row(const char *name, unsigned genus, work *with_call, double walk) {
-  uint64_t total, mixed;
-  double taken = time_of(with_call, genus, LENGTH, &total, &mixed) - walk;
-  printf("%s of every word of genus %u: %.1f times the walk, %.0f ns each\n", name, genus, taken / walk, taken / (double)total * 1e9);
-  return mixed;
+/* The least time of several runs of a call on all words that are asked, and the sum of its numbers. */
+static double time_of_calls(call *f, uint64_t *sum) {
+  double best = 1e9;
+  for (int i = 0; i < RUNS; i++) {
+    uint64_t mix = 0;
+    double start = now();
+    for (size_t k = 0; k < asked_count; k++) mix += f(asked[k]);
+    double taken = now() - start;
+    if (taken < best) best = taken;
+    *sum = mix;
+  }
+  return best;
+}
+
+/* A call on every word of a genus, which are asked, as a ratio to the walk of it; gives the sum of its numbers. */
+static uint64_t call_row(const char *name, unsigned genus, call *f, double walk) {
+  uint64_t sum;
+  double taken = time_of_calls(f, &sum);
+  printf("%s of every word of genus %u: %.2f times the walk, %.0f ns each\n", name, genus, taken / walk, taken / (double)asked_count * 1e9);
+  return sum;
+}
+
+/* A look at each of the words that are asked, as a ratio to one in plain Rust that tries every element. */
+static void look_row(const char *name) {
+  uint64_t ours, plain;
+  double a = time_of_calls(looked, &ours), b = time_of_calls(plainly_looked, &plain);
+  if (ours != plain) {
+    fprintf(stderr, "results differ: looks at %s\n", name);
+    exit(1);
+  }
+  printf("a look at %s: %.2f of the time of plain Rust that tries every element\n", name, a / b);
 }
 
 int main(void) {
@@ -277,17 +307,27 @@ int main(void) {
   uint64_t total, mixed;
   double walk = time_of(our_walk, 24, LENGTH, &total, &mixed);
   census_row(24, walk, total);
-  call_row("a look", 24, walk_looked, walk);
-  call_row("coordinates", 24, walk_coordinates, walk);
-  call_row("coordinates and back", 24, walk_back, walk);
-  call_row("seed table", 24, walk_tabled, walk);
-  uint64_t by_rows = call_row("grandchildren", 24, walk_grandchildren, walk);
-  uint64_t by_count = call_row("count two genera on", 24, walk_counted_on, walk);
+  ask_genus(24);
+  call_row("a look", 24, looked, walk);
+  if (call_row("shortest impossible opening", 24, opened, walk) != 0) {
+    fprintf(stderr, "results differ: openings of genus 24\n");
+    exit(1);
+  }
+  call_row("coordinates", 24, coordinates, walk);
+  call_row("coordinates and back", 24, coordinates_back, walk);
+  call_row("seed table", 24, tabled, walk);
+  uint64_t by_rows = call_row("grandchildren", 24, grandchildren, walk);
+  uint64_t by_count = call_row("count two genera on", 24, counted_on, walk);
   if (by_rows != by_count || by_rows != atlas_count(0, 26).value) {
     fprintf(stderr, "results differ: grandchildren of genus 24\n");
     exit(1);
   }
-  call_row("first descendant of genus 32", 24, walk_first_on, walk);
+  call_row("first descendant of genus 32", 24, first_on, walk);
+  look_row("the words of genus 24");
+  ask_random(1);
+  look_row("random words");
+  ask_random(3);
+  look_row("random words with few gaps");
   uint64_t cut_total, cut_mixed;
   double whole = time_of(our_walk, 28, LENGTH, &total, &mixed), cut = time_of(by_ancestors, 28, LENGTH, &cut_total, &cut_mixed);
   if (cut_total != total || cut_mixed != mixed) {
