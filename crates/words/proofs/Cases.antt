@@ -72,20 +72,20 @@ pub known-conductors-and-multiplicities : let words : List ℕ = 0 ∷ 2 ∷ 13 
 unfolding run keep lastOr bit setOf gaps largestGap conductor multiplicity
 known-conductors-and-multiplicities = (refl, refl)
 
--- the shortest impossible openings of 13, 2 and 0
-pub known-openings : map openingOf (13 ∷ 2 ∷ 0 ∷ []) ≡ option.some 3 ∷ option.some 1 ∷ option.none ∷ []
+-- the shortest impossible openings of 13, 2 and 0, and of 77, of whose gaps 1, 3, 4 and 7 the last two are sums, 2 + 2 and 2 + 5
+pub known-openings : map openingOf (13 ∷ 2 ∷ 0 ∷ 77 ∷ []) ≡ option.some 3 ∷ option.some 1 ∷ option.none ∷ option.some 3 ∷ []
 unfolding run keep keepIf every sumOfTwo bit setOf gaps genus setMissing closedGaps smallestGaps openingOf
 known-openings = refl
 
--- and with more than 32 gaps: of all gaps up to 64 and of the gaps 1 to 33 and 64, whose sets are closed under addition, and of all gaps up to 64
--- but 21, of which 42 and 63 are sums of 21
+-- and with more than 32 gaps: of the gaps 1 to 64 and of the gaps 1 to 33 and 64, whose sets are closed under addition, and of the gaps 1 to 64
+-- without 20 and 21, of which 40, 41 and 42 are sums of these
 pub known-long-openings : (openingOf 18446744073709551615 ≡ option.none) × (openingOf 9223372045444710399 ≡ option.none)
-    × (openingOf 18446744073708503039 ≡ option.some 41)
+    × (openingOf 18446744073707978751 ≡ option.some 38)
 unfolding run keep keepIf every sumOfTwo bit setOf gaps genus closed gapSums leastGapSum
 known-long-openings = (
   closed-opening 18446744073709551615 (omega arith) refl,
   closed-opening 9223372045444710399 (omega arith) refl,
-  opening-least 18446744073708503039 (omega arith) 42 (least-gap-sum 18446744073708503039 (omega arith) refl),
+  opening-least 18446744073707978751 (omega arith) 40 (least-gap-sum 18446744073707978751 (omega arith) refl),
 )
   where
     closed-opening : (w : ℕ) → w < 2 ^ 64 → closed w ≡ true → openingOf w ≡ option.none

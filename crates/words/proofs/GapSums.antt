@@ -1,32 +1,32 @@
 -- The gaps of a word below the least one that is a sum of two positive elements, by shifts: a positive element moves the positive elements up,
 -- and the lowest bit that these sums and the gaps have in common tells the least gap among them. Assumes nothing.
-use Prim.Native.Nat.{ℕ, suc, _+_, _*_, _-_, _/_, _%_, _^_, _≤_, _<_}
+use Prim.Native.Nat.{ℕ, zero, suc, _+_, _*_, _-_, _/_, _%_, _^_, _≤_, _<_}
 use mathlib.Core.Path.{_≡_, refl, sym, ap, ap₂, _∙_}
 use mathlib.Core.Logic.{_⊎_, inl, inr, _≢_, _↔_, ⊎-elim}
 use mathlib.Core.Bool.{true, false, not, _&&_, and-eq-true-iff}
-use mathlib.Core.List.{List, [], List·Memᴰ}
+use mathlib.Core.List.{List, [], _∷_, List·Memᴰ}
 use native.Mathlib.Omega.{arith}
-use native.Mathlib.Nat.{lt-of-not-le, le-of-suc-le-suc, le-antisymm, le-dest, mod-le, mod-lt, mod-eq-of-lt}
-use native.Mathlib.Decide.{decLt, ℕ-discrete}
+use native.Mathlib.Nat.{lt-of-not-le, le-of-suc-le-suc, le-antisymm, le-dest, mod-lt, mod-eq-of-lt}
+use native.Mathlib.Decide.{decLt}
 use lib.Dec.{ltb}
 use lib.Bits.{bitAnd, and-mask}
 use lib.Count.{trailingZeros, trailing-of-zero}
 use lib.ListN.{getD}
 use lib.Pow.{pow-pos, mod-mod-pow}
 use borrow.Author.Tests.{ltb-true, lt-ltb, not-true, not-false}
-use Rattle.words.specs.Lists.{Ordered}
+use Rattle.words.specs.Lists.{run, keep, keepIf, every, Ordered}
 use Rattle.words.specs.Sets.{Set, sumOfTwo}
 use Rattle.words.specs.Words.{bit, setOf, gaps, closed}
 use Rattle.words.specs.Elements.{multiplicity}
 use Rattle.words.specs.GapSums.{gapSums, leastGapSum}
 use Rattle.words.specs.Positions.{bitsFrom}
-use Rattle.words.proofs.Booleans.{not-both, is-true}
+use Rattle.words.proofs.Booleans.{not-both, is-true, is-false}
 use Rattle.words.proofs.Lists.{nothing, keep-mem, mem-keep, every-mem, every-false, ordered-keep, least-first}
-use Rattle.words.proofs.Bits.{bit-past, bit-shr, bit-mod, bit-low, bit-zero, one-shl}
+use Rattle.words.proofs.Bits.{bit-past, bit-shr, bit-low, bit-zero, one-shl}
 use Rattle.words.proofs.Sets.{sum-of, sum-found}
 use Rattle.words.proofs.Words.{element-past, gap-pos, gap-le-64, gaps-of, gaps-mem, mem-gaps}
 use Rattle.words.proofs.StandingBits.{trailing-below, trailing-stands, trailing-lt}
-use Rattle.words.proofs.BitSets.{bits-from-lt, bits-from-and, bits-from-shl, bits-from-below, bits-from-before, bits-from-lowest, word-from, complement-from}
+use Rattle.words.proofs.BitSets.{bits-from-lt, bits-from-none, bits-from-and, bits-from-shl, bits-from-below, bits-from-before, bits-from-lowest, word-from, complement-from}
 use Rattle.words.proofs.Elements.{multiplicity-in, multiplicity-pos, multiplicity-least}
 use Rattle.words.proofs.Operations.{complement, bit-element}
 
@@ -51,6 +51,11 @@ pub record Tried (w a left : ℕ) : Type 0 where
   pub found : (least ≡ 65) ⊎ List·Memᴰ least (gapSums w)
   pub smallest : (x y : ℕ) → 0 < x → x < a → setOf w x ≡ true → 0 < y → setOf w y ≡ true → setOf w (x + y) ≡ false → least ≤ x + y
   pub below : left ≡ gapsBelow w least
+
+-- of the gaps 1, 3, 4 and 7 of word 77, 4 is 2 + 2 and 7 is 2 + 5
+pub known-gap-sums : (gapSums 77 ≡ 4 ∷ 7 ∷ []) × (leastGapSum 77 ≡ 4)
+unfolding run keep keepIf every sumOfTwo bit setOf gaps gapSums leastGapSum
+known-gap-sums = (refl, refl)
 
 module _ (w : ℕ) (fits : w < 2 ^ 64) where
   -- which gaps are sums
@@ -77,6 +82,9 @@ module _ (w : ℕ) (fits : w < 2 ^ 64) where
   unfolding leastGapSum
   gap-sums-first m = least-first (gapSums w) 65 gap-sums-ordered m .0
 
+  gaps-below-bits : (n : ℕ) → gapsBelow w n ≡ bitsFrom (λ x. not (setOf w x) && ltb x n) 1
+  gaps-below-bits n = ap (λ (m : ℕ). gapsBelow m n) (word-from w fits) ∙ bits-from-below (λ x. not (setOf w x)) n
+
   -- ---- the sums with an element a
 
   -- x is a sum with a, and a gap below n
@@ -85,7 +93,7 @@ module _ (w : ℕ) (fits : w < 2 ^ 64) where
 
   sums-as-bits : (a n : ℕ) → sumsAmong w a (gapsBelow w n) ≡ bitsFrom (sumWith a n) 1
   sums-as-bits a n =
-      ap₂ (λ (m k : ℕ). bitAnd (m * 2 ^ a % 2 ^ 64) k) (complement-from w fits) (ap (λ (m : ℕ). gapsBelow m n) (word-from w fits) ∙ bits-from-below (λ x. not (setOf w x)) n)
+      ap₂ (λ (m k : ℕ). bitAnd (m * 2 ^ a % 2 ^ 64) k) (complement-from w fits) (gaps-below-bits n)
       ∙ ap (λ (m : ℕ). bitAnd m (bitsFrom (λ x. not (setOf w x) && ltb x n) 1)) (bits-from-shl (setOf w) a)
       ∙ bits-from-and (λ x. ltb a x && setOf w (x - a)) (λ x. not (setOf w x) && ltb x n) 1
 
@@ -280,29 +288,23 @@ module _ (w : ℕ) (fits : w < 2 ^ 64) where
       let (gap, sum) = gap-sums-mem w fits (gap-sums-first w fits (mem-gap-sums w fits x (gaps-mem w m) (not-false _ e))) in
       record { gap = gap; sum = sum; least = λ y out s. gap-sums-least w fits (mem-gap-sums w fits y out s) }
 
-  -- where 1 is an element, no gap is below it: the least gap is the sum of 1 and the element before it
-  pub possible-none : setOf w 1 ≡ true → 0 ≡ w % 2 ^ (leastGapSum w - 1)
+  -- where 1 is an element, every number below it is: the first gap would be the sum of 1 and the number before it
+  below-least : setOf w 1 ≡ true → (x : ℕ) → x < leastGapSum w → setOf w x ≡ true
   unfolding setOf
-  possible-none one-in = elim (ℕ-discrete (w % 2 ^ n) 0) [ yes e ↦ sym e | no nonzero ↦ absurd (none nonzero) ]
-    where
-      n : ℕ
-      n = leastGapSum w - 1
+  below-least one-in zero h = refl
+  below-least one-in (suc zero) h = one-in
+  below-least one-in (suc (suc i)) h =
+      is-true (setOf w (suc (suc i))) (λ gap.
+      let sum = sum-found (setOf w) (suc (suc i)) 1 (suc i) (omega arith) (omega arith) (omega arith) one-in (below-least one-in (suc i) (omega arith)) in
+      omega (arith, gap-sums-least w fits (mem-gap-sums w fits (suc (suc i)) gap sum)))
 
-      v : ℕ
-      v = w % 2 ^ n
-
-      none : v ≢ 0 → ⊥
-      none nonzero =
-          let i : ℕ = trailingZeros 64 v in
-          let pos : 0 < v = lt-of-not-le (λ l. nonzero (omega arith)) in
-          let small : v < 2 ^ 64 = omega (arith, mod-le w (2 ^ n)) in
-          let (stands, less) = and-eq-true-iff (bit w i) (ltb i n) .0 (sym (bit-low w n i) ∙ trailing-stands 64 v (trailing-lt 64 v pos small)) in
-          let below = ltb-true i n less in
-          let later : 0 < i = lt-of-not-le (λ l. let first : i ≡ 0 = omega arith in not-both (ap (bit w) (sym first) ∙ stands) (not-true _ one-in)) in
-          let before : suc (i - 1) ≡ i = omega arith in
-          let clear : bit w (i - 1) ≡ false = sym (bit-mod w n (i - 1) (omega arith)) ∙ trailing-below 64 v (i - 1) (omega arith) in
-          let i-in : setOf w i ≡ true = ap (setOf w) (sym before) ∙ ap not clear in
-          omega (arith, gap-sums-least w fits (mem-gap-sums w fits (suc i) (ap not stands) (sum-found (setOf w) (suc i) 1 i (omega arith) later (omega arith) one-in i-in)))
+  -- so that no gap is
+  pub possible-none : setOf w 1 ≡ true → 0 ≡ w % 2 ^ (leastGapSum w - 1)
+  possible-none one-in =
+      bits-from-none _ 1 (λ x low high. is-false _ (λ t.
+      let (gap, less) = and-eq-true-iff (not (setOf w x)) (ltb x (leastGapSum w)) .0 t in
+      not-both (below-least one-in x (ltb-true x (leastGapSum w) less)) (not-true _ gap)))
+      ∙ sym (gaps-below-bits w fits (leastGapSum w))
 
   -- all gaps are below it just where the set is closed under addition
   pub possible-all : (w % 2 ^ (leastGapSum w - 1) ≡ w) ↔ (closed w ≡ true)

@@ -491,18 +491,15 @@ on-from R irrefl (y ∷ k) l x o =
     rw (ne-eqb x y (λ e. irrefl x (subst (λ (z : ℕ). R z x) (sym e) (o .0 x (mem-middle k l x)))))
     (on-from R irrefl k l x (o .1))
 
--- in order, the least is the first
-pub first-least : (l : List ℕ) (x d : ℕ) → Ordered _<_ l → List·Memᴰ x l → ((y : ℕ) → List·Memᴰ y l → x ≤ y) → getD l 0 d ≡ x
-unfolding Ordered
-first-least [] x d o m least = absurd (List·Memᴰ·not-nil m)
-first-least (y ∷ l) x d o (List·Memᴰ·head e) least = sym e
-first-least (y ∷ l) x d o (List·Memᴰ·tail m) least = absurd (omega (arith, o .0 x m, least y (List·Memᴰ·head refl)))
-
--- the first is the least
+-- in order, where there is any, the first is the least
 pub least-first : {x : ℕ} (l : List ℕ) (d : ℕ) → Ordered _<_ l → List·Memᴰ x l → List·Memᴰ (getD l 0 d) l × ((y : ℕ) → List·Memᴰ y l → getD l 0 d ≤ y)
 unfolding Ordered
 least-first [] d o m = absurd (List·Memᴰ·not-nil m)
 least-first (z ∷ l) d o m = (List·Memᴰ·head refl, λ y n. ⊎-elim (λ e. omega arith) (λ i. omega (arith, o .0 y i)) (List·Memᴰ·cases-cons n))
+
+-- so that the least is the first
+pub first-least : (l : List ℕ) (x d : ℕ) → Ordered _<_ l → List·Memᴰ x l → ((y : ℕ) → List·Memᴰ y l → x ≤ y) → getD l 0 d ≡ x
+first-least l x d o m least = let (i, first) = least-first l d o m in omega (arith, first x m, least (getD l 0 d) i)
 
 -- ---- one number or one member more
 

@@ -1,6 +1,6 @@
 -- `words::opening` meets its contract: where all gaps are left, the set is closed under addition, and else the gaps left and one more are the
 -- shortest impossible opening. Assumes nothing.
-use Prim.Native.Nat.{ℕ, _+_, _-_, _^_, _<_}
+use Prim.Native.Nat.{ℕ, _-_, _%_, _^_, _<_}
 use mathlib.Core.Path.{_≡_, sym, ap, _∙_}
 use mathlib.Core.Bool.{false}
 use mathlib.Core.Option.{some}
@@ -45,7 +45,8 @@ returns-2 c =
     let w : ℕ = start .args .word in
     let fits = start .fits .word .fits in
     let fails : closed w ≡ false = is-false (closed w) (λ t. c .before .if1 .left (given ∙ possible-all w fits .1 t)) in
-    ap (λ (n : ℕ). some (n + 1)) (c .genus-of .ensures ∙ ap genus given) ∙ sym (opening-least w fits _ (least-gap-sum w fits fails))
+    let left : c .genus-of .result ≡ genus (w % 2 ^ (leastGapSum w - 1)) = c .genus-of .ensures ∙ ap genus given in
+    sym (opening-least w fits _ (least-gap-sum w fits fails) ∙ ap some (omega arith))
 
 pub opening-spec : {M : Type 1} → statement M
 opening-spec = tie.close (tie.spec possible-gaps-requires returns genus-of-requires add-t5 returns-2)
