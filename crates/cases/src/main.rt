@@ -1,6 +1,6 @@
 // Runs further cases of the papers on gap words, openings, seed tables, children, windows of multiplicities, searches and descendants, and
-// prints what the calls answer. What it prints is held to the stored file: the tables of the descendants of example 1.4 worked by hand by lemma 3.1, the rest
-// computed apart from the plain definitions. The marked cases are proved: proofs/Marked.antt.
+// prints what the calls answer. What it prints is held to the stored file: the tables of the descendants of example 1.4 worked by hand by
+// lemma 3.1, the rest computed apart from the plain definitions. The marked cases are proved: proofs/Marked.antt.
 use libc::STDOUT_FILENO;
 use tables::TableAnswer;
 use walk::BatchAnswer;
@@ -209,8 +209,9 @@ fn reported_numbers() {
     show_child(0, 2);
 }
 
-// Openings of 13, 2 and 0, of closed sets with up to 64 gaps, of words that are impossible at their second, their middle and their last gap, one
-// gap alone, and words with more than 32 gaps that are not closed: but 21, and but 32, whose only sum that is a gap is 64.
+// Openings of 13, 2 and 0; of closed sets with 32, 33, 34 and 64 gaps; of the gaps 1 and 4; of a semigroup of genus 22, and of its gaps without
+// 5, several of which are sums then; of the gaps 1 to 31 and 64; of 64 alone; and of the gaps 1 to 64 without 21, where 42 is the only sum,
+// and without 32, where 64 is.
 fn openings() {
     show_opening(13);
     show_opening(2);

@@ -13,8 +13,8 @@ use Rattle.words.specs.GapLists.{setMissing, closedGaps}
 unfoldable pub smallestGaps : ℕ → ℕ → List ℕ
 smallestGaps n w = take n (gaps w)
 
--- the least n, of those from 0 to the number of gaps, such that the n smallest gaps of w are not the gaps of a semigroup, or none: one of them
--- is a sum of two positive elements of the set that misses them
+-- the least n, of those from 0 to the number of gaps, such that the n smallest gaps of w are not the gaps of a semigroup, as one of them is a
+-- sum of two positive elements of the set that misses them; or none
 unfoldable pub openingOf : ℕ → Option ℕ
 openingOf w = head? (keep (λ n. not (closedGaps (smallestGaps n w))) (run 0 (suc (genus w))))
 

@@ -1,4 +1,4 @@
-// Gap words: the counts that belong to them, the refusals of the atlas, and looking at a word; and a question about lists of bytes.
+// Gap words: the counts that belong to them, the refusals of the atlas, looking at a word, and openings; and a question about lists of bytes.
 ghost use Prim.Native.Nat.{_+_, _-_, _%_, _^_, min};
 ghost use mathlib.Core.Path.{_≡_};
 ghost use lib.Dec.{ltb};
