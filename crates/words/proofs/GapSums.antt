@@ -63,6 +63,7 @@ module _ (w : ℕ) (fits : w < 2 ^ 64) where
   unfolding gapSums
   gap-sums-mem m = let (i, e) = keep-mem (sumOfTwo (setOf w)) (gaps w) m in (gaps-mem w i, e)
 
+  -- and back
   mem-gap-sums : (x : ℕ) → setOf w x ≡ false → sumOfTwo (setOf w) x ≡ true → List·Memᴰ x (gapSums w)
   unfolding gapSums
   mem-gap-sums x gap sum = mem-keep (sumOfTwo (setOf w)) (gaps w) (mem-gaps w x fits gap) sum
@@ -82,6 +83,7 @@ module _ (w : ℕ) (fits : w < 2 ^ 64) where
   unfolding leastGapSum
   gap-sums-first m = least-first (gapSums w) 65 gap-sums-ordered m .0
 
+  -- the gaps below n, by a test of each number
   gaps-below-bits : (n : ℕ) → gapsBelow w n ≡ bitsFrom (λ x. not (setOf w x) && ltb x n) 1
   gaps-below-bits n = ap (λ (m : ℕ). gapsBelow m n) (word-from w fits) ∙ bits-from-below (λ x. not (setOf w x)) n
 
@@ -91,6 +93,7 @@ module _ (w : ℕ) (fits : w < 2 ^ 64) where
   abbrev sumWith : ℕ → ℕ → Set
   sumWith a n x = (ltb a x && setOf w (x - a)) && (not (setOf w x) && ltb x n)
 
+  -- the sums with a among the gaps below n, by that test
   sums-as-bits : (a n : ℕ) → sumsAmong w a (gapsBelow w n) ≡ bitsFrom (sumWith a n) 1
   sums-as-bits a n =
       ap₂ (λ (m k : ℕ). bitAnd (m * 2 ^ a % 2 ^ 64) k) (complement-from w fits) (gaps-below-bits n)
@@ -113,9 +116,11 @@ module _ (w : ℕ) (fits : w < 2 ^ 64) where
   )
 
   module _ (a n left : ℕ) (below : left ≡ gapsBelow w n) where
+    -- the place of the lowest, as a bit
     abbrev zeros : ℕ
     zeros = trailingZeros 64 (sumsAmong w a left)
 
+    -- the same of the gaps left
     as-bits : sumsAmong w a left ≡ bitsFrom (sumWith a n) 1
     as-bits = ap (sumsAmong w a) below ∙ sums-as-bits a n
 
@@ -144,6 +149,7 @@ module _ (w : ℕ) (fits : w < 2 ^ 64) where
   next-bit : (a j : ℕ) → a + j < 64 → bit (complement w / 2 ^ a) j ≡ setOf w (suc (a + j))
   next-bit a j h = bit-shr (complement w) a j ∙ bit-element w fits (a + j) h
 
+  -- the next element is one
   next-in : (a : ℕ) → setOf w (nextElement w a) ≡ true
   next-in a =
       let zeros : ℕ = trailingZeros 64 (complement w / 2 ^ a) in
@@ -153,7 +159,7 @@ module _ (w : ℕ) (fits : w < 2 ^ 64) where
         | no h ↦ element-past w 64 (nextElement w a) fits (omega arith)
       ]
 
-  -- none is between
+  -- and none up to 64 is between
   next-least : (a x : ℕ) → a < x → x < nextElement w a → x ≤ 64 → setOf w x ≡ false
   next-least a x low high small =
       let (j, e) = le-dest low in
