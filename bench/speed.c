@@ -94,8 +94,8 @@ static size_t asked_count;
 /* All words of a genus, at most 24. */
 static void ask_genus(unsigned genus) { asked_count = atlas_batch(atlas_fresh(genus).walk, asked, MOST_ASKED).count; }
 
-/* As many random words, each made of so many by and: of one about half of the bits stand, of three eight of them. */
-static void ask_random(int parts) {
+/* As many random words, each made of so many by and: of one about half of the bits stand, of three eight of them; with these gaps besides. */
+static void ask_random(int parts, uint64_t gaps) {
   uint64_t random = 20261115;
   for (size_t i = 0; i < asked_count; i++) {
     asked[i] = UINT64_MAX;
@@ -103,6 +103,7 @@ static void ask_random(int parts) {
       random ^= random << 13, random ^= random >> 7, random ^= random << 17;
       asked[i] &= random;
     }
+    asked[i] |= gaps;
   }
 }
 
@@ -324,10 +325,12 @@ int main(void) {
   }
   call_row("first descendant of genus 32", 24, first_on, walk);
   look_row("the words of genus 24");
-  ask_random(1);
+  ask_random(1, 0);
   look_row("random words");
-  ask_random(3);
+  ask_random(3, 0);
   look_row("random words with few gaps");
+  ask_random(3, 1);
+  look_row("random words with few gaps, and 1");
   uint64_t cut_total, cut_mixed;
   double whole = time_of(our_walk, 28, LENGTH, &total, &mixed), cut = time_of(by_ancestors, 28, LENGTH, &cut_total, &cut_mixed);
   if (cut_total != total || cut_mixed != mixed) {

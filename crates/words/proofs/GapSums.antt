@@ -235,26 +235,25 @@ module _ (w : ℕ) (fits : w < 2 ^ 64) where
         absurd (omega (arith, with-least a least left (t .below) y pos y-in gap l, ap (trailingZeros 64) none ∙ trailing-of-zero 64, gap-le-64 w (a + y) fits gap)))
         (t .found) (t .below)
 
-    -- no gap of at least twice a is left
-    abbrev pub NoneLeft : Type 0
-    NoneLeft = (32 < a) ⊎ (left / 2 ^ (2 * a - 1) ≡ 0)
+    -- no gap of at least twice n is left
+    abbrev pub NoneLeft : ℕ → Type 0
+    NoneLeft n = (32 < n) ⊎ (left / 2 ^ (2 * n - 1) ≡ 0)
 
-    none-left : NoneLeft → (x : ℕ) → setOf w x ≡ false → a + a ≤ x → least ≤ x
+    none-left : (n : ℕ) → 0 < n → NoneLeft n → (x : ℕ) → setOf w x ≡ false → n + n ≤ x → least ≤ x
     unfolding setOf
-    none-left none x gap high =
+    none-left n pos none x gap high =
         ⊎-elim (λ l. omega (arith, gap-le-64 w x fits gap)) (λ e.
         let (j, sum) = le-dest high in
-        let pos = t .positive in
-        let place : 2 * a - 1 + j ≡ x - 1 = omega arith in
+        let place : 2 * n - 1 + j ≡ x - 1 = omega arith in
         let next : suc (x - 1) ≡ x = omega arith in
         le-of-suc-le-suc (lt-of-not-le (λ l.
         not-both (bit-low w (least - 1) (x - 1) ∙ and-eq-true-iff (bit w (x - 1)) (ltb (x - 1) (least - 1)) .1
         (not-false _ (ap (setOf w) next ∙ gap), lt-ltb (x - 1) (least - 1) (omega arith)))
-        (ap₂ bit (sym (t .below)) (sym place) ∙ sym (bit-shr left (2 * a - 1) j) ∙ ap (λ (n : ℕ). bit n j) e ∙ bit-zero j)))) none
+        (ap₂ bit (sym (t .below)) (sym place) ∙ sym (bit-shr left (2 * n - 1) j) ∙ ap (λ (b : ℕ). bit b j) e ∙ bit-zero j)))) none
 
-    -- then no sum of other elements is a smaller one: of two summands one is at most half of their sum
-    tried-all : NoneLeft → (x : ℕ) → List·Memᴰ x (gapSums w) → least ≤ x
-    tried-all none x m =
+    -- then, where n is at most a, no sum of other elements is a smaller one: of two summands one is at most half of their sum
+    tried-all : (n : ℕ) → 0 < n → n ≤ a → NoneLeft n → (x : ℕ) → List·Memᴰ x (gapSums w) → least ≤ x
+    tried-all n pos low none x m =
         let (gap, sum) = gap-sums-mem m in
         let s = sum-of (setOf w) x sum in
         let other-way : s .other + s .one ≡ x = omega (arith, s .sum) in
@@ -262,19 +261,19 @@ module _ (w : ℕ) (fits : w < 2 ^ 64) where
           | yes k ↦ omega (arith, s .sum, t .smallest (s .one) (s .other) (s .one-pos) k (s .one-in) (s .other-pos) (s .other-in) (ap (setOf w) (s .sum) ∙ gap))
           | no k ↦ elim (decLt (s .other) a) [
             | yes l ↦ omega (arith, t .smallest (s .other) (s .one) (s .other-pos) l (s .other-in) (s .one-pos) (s .one-in) (ap (setOf w) other-way ∙ gap))
-            | no l ↦ none-left none x gap (omega (arith, s .sum))
+            | no l ↦ none-left n pos none x gap (omega (arith, s .sum))
           ]
         ]
 
     -- so that the gaps below the least one that is a sum are left
-    pub tried-left : NoneLeft → left ≡ w % 2 ^ (leastGapSum w - 1)
+    pub tried-left : (n : ℕ) → 0 < n → n ≤ a → NoneLeft n → left ≡ w % 2 ^ (leastGapSum w - 1)
     unfolding leastGapSum
-    tried-left none =
+    tried-left n pos low none =
+        let all = tried-all n pos low none in
         let same : leastGapSum w ≡ least =
         ⊎-elim
-        (λ e.
-        ap (λ (l : List ℕ). getD l 0 65) (nothing (gapSums w) (λ x m. omega (arith, tried-all none x m, gap-le-64 w x fits (gap-sums-mem m .0)))) ∙ sym e)
-        (λ m. le-antisymm (gap-sums-least m) (tried-all none (leastGapSum w) (gap-sums-first m))) (t .found) in
+        (λ e. ap (λ (l : List ℕ). getD l 0 65) (nothing (gapSums w) (λ x m. omega (arith, all x m, gap-le-64 w x fits (gap-sums-mem m .0)))) ∙ sym e)
+        (λ m. le-antisymm (gap-sums-least m) (all (leastGapSum w) (gap-sums-first m))) (t .found) in
         t .below ∙ ap (gapsBelow w) (sym same)
 
 -- ---- what the least one tells

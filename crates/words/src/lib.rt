@@ -181,8 +181,8 @@ pub fn conductor_of(word: u64) -> u64
 
 // The gaps of any word below the least one that is a sum of two positive elements, as a word; all of them where there is none. An element `a`
 // moves the positive elements up, and the gaps below the lowest of these sums that is a gap are left. The elements are tried in rising
-// order, as long as a gap of at least twice `a` is left: of two summands one is at most half of their sum. Where 1 is an element no gap is
-// left: the least is the sum of 1 and the element before it.
+// order, as long as a gap of at least twice the number after `a` is left: of two summands one is at most half of their sum. Where 1 is an
+// element no gap is left: the least is the sum of 1 and the element before it.
 fn possible_gaps(word: u64) -> u64
     ensures { λ r. ⌜ r ≡ word % 2 ^ (leastGapSum word - 1) ⌝ }
 {
@@ -192,10 +192,13 @@ fn possible_gaps(word: u64) -> u64
     let elements = !word;
     let mut left = word;
     let mut a = multiplicity_of(word);
-    while a <= 32 && left >> (2 * a - 1) > 0 {
+    while a <= 32 {
         let sums = (elements << a) & left;
         if sums != 0 {
             left &= (1 << (u64::trailing_zeros(sums) as u64)) - 1;
+        }
+        if left >> a >> (a + 1) == 0 {
+            return left;
         }
         a += u64::trailing_zeros(elements >> a) as u64 + 1;
     }

@@ -1,16 +1,15 @@
 -- `words::possible_gaps` meets its contract. The loop's invariant: the sums with the elements below `a` are tried, and the gaps below the least
 -- one found are left. Assumes nothing.
-use Prim.Native.Nat.{ℕ, _*_, _-_, _/_, _%_, _^_, _≤_, _<_}
+use Prim.Native.Nat.{ℕ, _+_, _*_, _-_, _/_, _%_, _^_, _≤_, _<_}
 use mathlib.Core.Path.{_≡_, sym, ap, subst, _∙_}
 use mathlib.Core.Bool.{not}
-use mathlib.Core.Logic.{inl, inr, _≢_, ⊎-elim}
+use mathlib.Core.Logic.{inl, inr, ⊎-elim}
 use native.Mathlib.Omega.{arith}
 use lib.Count.{trailing-le, trailingZeros}
-use lib.Pow.{pow-pos}
-use lib.Bits.{bitAnd, and-mask}
+use lib.Pow.{pow-pos, shr-shr}
+use lib.Bits.{and-mask}
 use lib.Dec.{eqb}
 use borrow.Author.Needs.{needs}
-use borrow.Author.Tests.{ltb-false}
 use Rattle.words.specs.Words.{setOf}
 use Rattle.words.proofs.Bits.{bit-first, one-shl}
 use Rattle.words.proofs.Operations.{complement}
@@ -42,46 +41,62 @@ loop-holds c =
     let w : ℕ = start .args .word in
     subst (λ (m : ℕ). Tried w m w) (sym (c .multiplicity-of .ensures)) (tried-none w (start .fits .word .fits))
 
-mul-if2 : tie.Need-mul-if2 Inv-loop μ-loop
-mul-if2 c = omega arith
-
-sub-if2 : tie.Need-sub-if2 Inv-loop μ-loop
-sub-if2 c = omega (arith, c .before .loop .inv .positive)
-
-shr-if2 : tie.Need-shr-if2 Inv-loop μ-loop
-shr-if2 c = omega arith
-
 shl-sums : tie.Need-shl-sums Inv-loop μ-loop
 shl-sums c = omega arith
 
--- the lowest of the sums that are gaps
+-- the lowest of the sums that are gaps, as a bit
 lower : (c : tie.Then2 Inv-loop μ-loop)
-    → let loop = c .before .before .loop in
-    let w = c .before .before .before .before .before .args .word in
-    let zeros = trailingZeros 64 (sumsAmong w (loop .a) (loop .left)) in
-    sumsAmong w (loop .a) (loop .left) ≢ 0 → (zeros < 64) × (1 ≤ 1 * 2 ^ zeros % 2 ^ 64) × Tried w (nextElement w (loop .a)) (bitAnd (loop .left) (1 * 2 ^ zeros % 2 ^ 64 - 1))
-lower c nonzero =
+    → let zeros = trailingZeros 64 (sumsAmong (c .before .before .before .before .before .args .word) (c .before .before .loop .a) (c .before .before .loop .left)) in
+    (zeros < 64) × (1 ≤ 1 * 2 ^ zeros % 2 ^ 64)
+lower c =
     let start = c .before .before .before .before .before in
     let loop = c .before .before .loop in
-    let w : ℕ = start .args .word in
-    let zeros : ℕ = trailingZeros 64 (sumsAmong w (loop .a) (loop .left)) in
-    let (h, t) = tried-less w (start .fits .word .fits) (loop .a) (loop .left) (loop .inv) nonzero in
-    (h, omega (arith, one-shl zeros h, pow-pos zeros), t)
+    let zeros : ℕ = trailingZeros 64 (sumsAmong (start .args .word) (loop .a) (loop .left)) in
+    let (h, t) = tried-less _ (start .fits .word .fits) _ _ (loop .inv) (c .if2 .taken) in
+    (h, omega (arith, one-shl zeros h, pow-pos zeros))
 
 cast-left : tie.Need-cast-left Inv-loop μ-loop
-cast-left c = omega (arith, lower (c .before) (c .if3 .taken) .0)
+cast-left c = omega (arith, lower c .0)
 
 shl-left : tie.Need-shl-left Inv-loop μ-loop
-shl-left c = lower (c .before) (c .if3 .taken) .0
+shl-left c = lower c .0
 
 sub-left : tie.Need-sub-left Inv-loop μ-loop
-sub-left c = lower (c .before) (c .if3 .taken) .1
+sub-left c = lower c .1
+
+-- the sums with `a` are tried, and the element after it is next
+tried : (c : tie.Joined2 Inv-loop μ-loop)
+    → let w = c .before .before .before .before .before .args .word in Tried w (nextElement w (c .before .before .loop .a)) (c .if2 .left)
+tried c =
+    let fits = c .before .before .before .before .before .fits .word .fits in
+    let inv = c .before .before .loop .inv in
+    ⊎-elim (λ (t, same). subst (Tried _ _) (sym same) (tried-less _ fits _ _ inv (t .taken) .1))
+    (λ (t, same). subst (Tried _ _) (sym same) (tried-same _ fits _ _ inv (t .left))) (c .if2 .came)
+
+shr-if3 : tie.Need-shr-if3 Inv-loop μ-loop
+shr-if3 c = omega arith
+
+add-if3 : tie.Need-add-if3 Inv-loop μ-loop
+add-if3 c = omega arith
+
+shr-if3-2 : tie.Need-shr-if3-2 Inv-loop μ-loop
+shr-if3-2 c = omega arith
+
+-- no gap of at least twice the number after `a` is left
+returns-2 : tie.Need-returns-2 Inv-loop μ-loop
+returns-2 c =
+    let joined = c .before .before in
+    let a : ℕ = joined .before .before .loop .a in
+    let twice : 2 * (a + 1) - 1 ≡ a + (a + 1) = omega arith in
+    tried-left _ (joined .before .before .before .before .before .fits .word .fits) _ _ (tried joined) (a + 1) (omega arith) (omega arith)
+    (inr (ap (λ (n : ℕ). joined .if2 .left / 2 ^ n) twice ∙ sym (shr-shr (joined .if2 .left) a (a + 1)) ∙ c .if3 .taken))
 
 shr-a : tie.Need-shr-a Inv-loop μ-loop
 shr-a c = omega arith
 
 -- the zeros below the next element
-zeros-le : (c : tie.Joined3 Inv-loop μ-loop) → trailingZeros 64 (complement (c .before .before .before .before .before .before .args .word) / 2 ^ c .before .before .before .loop .a) ≤ 64
+zeros-le : (c : tie.Else3 Inv-loop μ-loop)
+    → trailingZeros 64 (complement (c .before .before .before .before .before .before .before .args .word) / 2 ^ c .before .before .before .before .loop .a) ≤ 64
 zeros-le c = trailing-le 64 _
 
 cast-a : tie.Need-cast-a Inv-loop μ-loop
@@ -97,26 +112,12 @@ loop-less : tie.Need-loop-less Inv-loop μ-loop
 loop-less c = omega arith
 
 loop-again : tie.Need-loop-again Inv-loop μ-loop
-loop-again c =
-    let start = c .before .before .before .before .before .before in
-    let loop = c .before .before .before .loop in
-    let w : ℕ = start .args .word in
-    ⊎-elim (λ (t, same). subst (Tried w (nextElement w (loop .a))) (sym same) (lower (c .before) (t .taken) .2))
-    (λ (t, same). subst (Tried w (nextElement w (loop .a))) (sym same) (tried-same w (start .fits .word .fits) (loop .a) (loop .left) (loop .inv) (t .left)))
-    (c .if3 .came)
-
-returns-2 : tie.Need-returns-2 Inv-loop μ-loop
-returns-2 c =
-    let fits = c .before .before .before .before .before .fits .word .fits in
-    let loop = c .before .before .loop in
-    let few = ltb-false _ (loop .left / 2 ^ (2 * loop .a - 1)) (c .if2 .left) in
-    tried-left _ fits (loop .a) (loop .left) (loop .inv) (inr (omega arith))
+loop-again c = tried (c .before .before)
 
 returns-3 : tie.Need-returns-3 Inv-loop μ-loop
 returns-3 c =
-    let fits = c .before .before .before .before .fits .word .fits in
     let loop = c .before .loop in
-    tried-left _ fits (loop .a) (loop .left) (loop .inv) (inl (omega arith))
+    tried-left _ (c .before .before .before .before .fits .word .fits) _ _ (loop .inv) (loop .a) (loop .inv .positive) (omega arith) (inl (omega arith))
 
 pub possible-gaps-spec : {M : Type 1} → statement M
 possible-gaps-spec =
@@ -127,18 +128,18 @@ possible-gaps-spec =
     returns
     multiplicity-of-requires
     loop-holds
-    mul-if2
-    sub-if2
-    shr-if2
     shl-sums
     cast-left
     shl-left
     sub-left
+    shr-if3
+    add-if3
+    shr-if3-2
+    returns-2
     shr-a
     cast-a
     add-a
     add-a-2
     loop-less
     loop-again
-    returns-2
     returns-3)
