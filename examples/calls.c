@@ -67,8 +67,8 @@ static bool opening_is(uint64_t word, uint64_t length) {
 
 /* Accepted words have none, nor have closed sets with more gaps than a look takes: 1 to 33, the numbers up to 64 that 3 does not divide, and
    1 to 64. 123 has the gaps of 91 and 6 = 3 + 3, and 1371 those of 91 with 9 = 3 + 6 and 11 = 3 + 8; 17678129737304986965 has the odd
-   numbers up to 63 with 62 = 2 + 60 and 64 = 4 + 60; 6442450943 has 1 to 31 and 33, to which 64 = 32 + 32 is added. The longest of all is
-   that of the gaps 1 to 31 and 33 to 64. */
+   numbers up to 63 with 62 = 2 + 60 and 64 = 4 + 60; 2147483647 has 1 to 31, and 6442450943 these and 33, to which 64 = 32 + 32 is added. The
+   longest of all is that of the gaps 1 to 31 and 33 to 64. */
 static void openings(void) {
   const uint64_t no_multiples_of_3 = 13176245766935394011u, gap_63 = UINT64_C(1) << 62, gap_64 = UINT64_C(1) << 63;
   CHECK(shortest_is(atlas_opening(0), false, 0));
@@ -85,6 +85,7 @@ static void openings(void) {
   CHECK(opening_is(1371, 6));
   CHECK(opening_is(gap_64, 1));
   CHECK(opening_is(17678129737304986965u, 32));
+  CHECK(opening_is(2147483647 + gap_64, 32));
   CHECK(opening_is(UINT64_MAX - 1, 1));
   CHECK(opening_is(UINT64_MAX - 2, 3));
   CHECK(shortest_is(atlas_opening(6442450943 + gap_64), true, 33) && atlas_look(6442450943).refused == 0);

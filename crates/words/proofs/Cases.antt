@@ -1,5 +1,5 @@
 -- Known semigroups: the genus lists of genus 0 to 4 and the numbers of semigroups of genus 0 to 8, computed by the tree, cuts of a genus list,
--- and looks at words and the conductors and multiplicities of any words, computed from the definition. Assumes nothing.
+-- looks at words, and of any words the conductors, multiplicities and openings, computed from the definitions. Assumes nothing.
 use Prim.Native.Nat.{ℕ, _+_, _^_, _<_}
 use mathlib.Core.Path.{_≡_, refl, sym, _∙_, ap}
 use mathlib.Core.Bool.{true}

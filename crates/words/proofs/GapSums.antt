@@ -152,10 +152,10 @@ module _ (w : ℕ) (fits : w < 2 ^ 64) where
   -- the next element is one
   next-in : (a : ℕ) → setOf w (nextElement w a) ≡ true
   next-in a =
-      let zeros : ℕ = trailingZeros 64 (complement w / 2 ^ a) in
-      let same : suc (a + zeros) ≡ nextElement w a = omega arith in
-      elim (decLt (a + zeros) 64) [
-        | yes h ↦ ap (setOf w) (sym same) ∙ sym (next-bit a zeros h) ∙ trailing-stands 64 (complement w / 2 ^ a) (omega arith)
+      let between : ℕ = trailingZeros 64 (complement w / 2 ^ a) in
+      let same : suc (a + between) ≡ nextElement w a = omega arith in
+      elim (decLt (a + between) 64) [
+        | yes h ↦ ap (setOf w) (sym same) ∙ sym (next-bit a between h) ∙ trailing-stands 64 (complement w / 2 ^ a) (omega arith)
         | no h ↦ element-past w 64 (nextElement w a) fits (omega arith)
       ]
 
@@ -180,9 +180,11 @@ module _ (w : ℕ) (fits : w < 2 ^ 64) where
   }
 
   module _ (a left : ℕ) (t : Tried w a left) where
+    -- the least found so far
     abbrev least : ℕ
     least = t .least
 
+    -- it is a gap, or 65
     least-range : (1 ≤ least) × (least ≤ 65)
     least-range =
         ⊎-elim (λ e. (omega arith, omega arith))
@@ -239,6 +241,7 @@ module _ (w : ℕ) (fits : w < 2 ^ 64) where
     abbrev pub NoneLeft : ℕ → Type 0
     NoneLeft n = (32 < n) ⊎ (left / 2 ^ (2 * n - 1) ≡ 0)
 
+    -- so that no such gap is below the least found
     none-left : (n : ℕ) → 0 < n → NoneLeft n → (x : ℕ) → setOf w x ≡ false → n + n ≤ x → least ≤ x
     unfolding setOf
     none-left n pos none x gap high =

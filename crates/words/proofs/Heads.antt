@@ -7,12 +7,13 @@ use mathlib.Core.Bool.{Bool, true, false}
 use mathlib.Core.List.{List, [], _∷_, _++_, head?, List·Memᴰ, List·Memᴰ·head, List·Memᴰ·not-nil, List·Memᴰ·cases-cons}
 use mathlib.Core.Option.{none, some, Option·none-ne-some, Option·some-injective}
 use native.Mathlib.Omega.{arith}
+use lib.ListN.{getD}
 use Rattle.words.specs.Lists.{keep, Ordered}
 use Rattle.words.specs.Sets.{Set, GapsOf}
 use Rattle.words.specs.Words.{setOf, gaps}
 use Rattle.words.specs.GenusList.{AllOf, FirstInOrder, Before, Earlier}
 use Rattle.words.proofs.Booleans.{is-false}
-use Rattle.words.proofs.Lists.{nothing, keep-mem, mem-keep, ordered-keep}
+use Rattle.words.proofs.Lists.{nothing, keep-mem, mem-keep, ordered-keep, least-first}
 use Rattle.words.proofs.Kept.{keep-none, ordered-first}
 use Rattle.words.proofs.Sets.{gaps-unique}
 use Rattle.words.proofs.Words.{gaps-of, same-set}
@@ -56,14 +57,14 @@ module _ (p : ℕ → Bool) (l : List ℕ) where
   -- else it passes, and none that passes is smaller
   pub least-some : Ordered _<_ l
       → (x : ℕ) → (head? (keep p l) ≡ some x) ↔ (List·Memᴰ x l × (p x ≡ true) × ((y : ℕ) → List·Memᴰ y l → p y ≡ true → x ≤ y))
-  unfolding Ordered
   least-some o x =
       let rising = ordered-keep _<_ p l o in (
         λ e.
             let (t, s) = head-some (keep p l) e in
-            let (m, pass) = keep-mem p l (subst (List·Memᴰ x) (sym s) (List·Memᴰ·head refl)) in
-            let later = subst (Ordered _<_) s rising .0 in
-            (m, pass, λ y n q. ⊎-elim (λ same. omega arith) (λ i. omega (arith, later y i)) (List·Memᴰ·cases-cons (subst (List·Memᴰ y) s (mem-keep p l n q)))),
+            let kept = subst (List·Memᴰ x) (sym s) (List·Memᴰ·head refl) in
+            let (m, pass) = keep-mem p l kept in
+            let first : getD (keep p l) 0 x ≡ x = ap (λ (k : List ℕ). getD k 0 x) s in
+            (m, pass, λ y n q. omega (arith, least-first (keep p l) x rising kept .1 y (mem-keep p l n q))),
         λ (m, pass, least).
             ap head? (ordered-first _<_ (keep p l) rising (mem-keep p l m pass) (λ y n b. let (i, q) = keep-mem p l n in omega (arith, least y i q)) .1),
       )
