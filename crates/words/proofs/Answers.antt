@@ -14,7 +14,7 @@ use Rattle.words.specs.Sets.{Set, ClosedUnderAddition}
 use Rattle.words.specs.Words.{setOf, genus, closed}
 use Rattle.words.specs.Answers.{Answer, Accepted, refused, given, isGiven, numberOf, ask, askWord, reportOf, Tells, lookOf, ListAnswer, unchanged, filled, listedInto, giving}
 use Rattle.words.specs.declared.Refusal.{Refusal}
-use Rattle.words.specs.declared.Refusal.the-variants.{TooManyGaps, NotClosed, GenusTooLarge, WalkOutOfOrder, NotAGenerator, ListTooShort, ZeroGenerator, CommonDivisor, TooManyGapsGenerated, MalformedInput, ZeroCoordinate, CoordinateSumTooLarge, FailedInequality, EditorOutOfOrder, EditorFull, ByteNotHeld}
+use Rattle.words.specs.declared.Refusal.the-variants.{TooManyGaps, NotClosed, GenusTooLarge, WalkOutOfOrder, NotAGenerator, ListTooShort, ZeroGenerator, CommonDivisor, TooManyGapsGenerated, MalformedInput, ZeroCoordinate, CoordinateSumTooLarge, FailedInequality, EditorOutOfOrder, EditorFull, ByteNotHeld, WrongJobVersion, WrongJobLength, WrongJobFields}
 use Rattle.words.specs.declared.Report.{Report}
 use Rattle.words.proofs.Sets.{genus-unique, multiplicity-unique}
 use Rattle.words.proofs.Words.{word-genus}
@@ -29,7 +29,7 @@ refusals : List Refusal
 refusals =
     TooManyGaps ∷ NotClosed ∷ GenusTooLarge ∷ WalkOutOfOrder ∷ NotAGenerator ∷ ListTooShort ∷ ZeroGenerator ∷ CommonDivisor
     ∷ TooManyGapsGenerated ∷ MalformedInput ∷ ZeroCoordinate ∷ CoordinateSumTooLarge ∷ FailedInequality
-    ∷ EditorOutOfOrder ∷ EditorFull ∷ ByteNotHeld ∷ []
+    ∷ EditorOutOfOrder ∷ EditorFull ∷ ByteNotHeld ∷ WrongJobVersion ∷ WrongJobLength ∷ WrongJobFields ∷ []
 
 refusalOf : ℕ → Refusal
 refusalOf n = getD refusals (n - 1) MalformedInput
@@ -52,13 +52,16 @@ refusal-of-number FailedInequality = refl
 refusal-of-number EditorOutOfOrder = refl
 refusal-of-number EditorFull = refl
 refusal-of-number ByteNotHeld = refl
+refusal-of-number WrongJobVersion = refl
+refusal-of-number WrongJobLength = refl
+refusal-of-number WrongJobFields = refl
 
 -- no two refusals have the same number, so that an equation of answers leaves no case of an enum free
 pub number-decides : (r s : Refusal) → numberOf r ≡ numberOf s → r ≡ s
 number-decides r s e = sym (refusal-of-number r) ∙ ap refusalOf e ∙ refusal-of-number s
 
--- the numbers are from 1 to 16
-pub number-range : (r : Refusal) → (1 ≤ numberOf r) × (numberOf r ≤ 16)
+-- the numbers are from 1 to 19
+pub number-range : (r : Refusal) → (1 ≤ numberOf r) × (numberOf r ≤ 19)
 number-range TooManyGaps = omega arith
 number-range NotClosed = omega arith
 number-range GenusTooLarge = omega arith
@@ -75,8 +78,37 @@ number-range FailedInequality = omega arith
 number-range EditorOutOfOrder = omega arith
 number-range EditorFull = omega arith
 number-range ByteNotHeld = omega arith
+number-range WrongJobVersion = omega arith
+number-range WrongJobLength = omega arith
+number-range WrongJobFields = omega arith
 
 -- ---- questions
+
+-- a value is given after a question that is answered yes
+pub ask-given : {A : Type 0} (n : ℕ) (q : Bool) (answer : Answer A) (v : A) → ask q (refused n) answer ≡ given v → (q ≡ true) × (answer ≡ given v)
+ask-given n false answer v e = let z : _≡_ {A = ℕ} 0 1 = cc in absurd (omega arith)
+ask-given n true answer v e = (refl, e)
+
+-- two questions before a value is given
+module _ {A : Type 0} (a b : ℕ) (value : A) where
+  -- the answer by the two tests
+  abbrev by-two : Bool → Bool → Answer A
+  by-two p q = ask p (refused a) (ask q (refused b) (given value))
+
+  -- where it is refused, every other answer by these tests is refused so
+  pub two-refused : {B : Type 0} (refuse : ℕ → B) (answer : B) (n : ℕ) (p q : Bool) → by-two p q ≡ refused n
+      → ask p (refuse a) (ask q (refuse b) answer) ≡ refuse n
+  two-refused refuse answer n false q e = let same : a ≡ n = cc in ap refuse same
+  two-refused refuse answer n true false e = let same : b ≡ n = cc in ap refuse same
+  two-refused refuse answer n true true e = let z : _≡_ {A = ℕ} 0 1 = cc in absurd (omega arith)
+
+  -- where it is given, both are answered yes
+  pub two-given : (v : A) (p q : Bool) → by-two p q ≡ given v → (p ≡ true) × (q ≡ true) × (value ≡ v)
+  two-given v p q e =
+      let (first, rest) = ask-given a p (ask q (refused b) (given value)) v e in
+      let (second, end) = ask-given b q (given value) v rest in
+      let same : value ≡ v = cc in
+      (first, second, same)
 
 -- which of three questions, with rising numbers, are answered yes and no for which answer
 module _ {A : Type 0} (a b c : ℕ) (low : a < b) (high : b < c) (value : A) where
@@ -146,24 +178,14 @@ module _ {B : Type 0} (w : ℕ) (value : B) where
   -- a word that is refused by one call is refused so by each call
   pub word-refused : {A : Type 0} (refuse : ℕ → A) (answer : A) (n : ℕ) → askWord refused w (given value) ≡ refused n → askWord refuse w answer ≡ refuse n
   unfolding askWord
-  word-refused refuse answer n e = by-questions (leb (genus w) 32) (closed w) e
-    where
-      by-questions : (few sums : Bool) → ask few (refused 1) (ask sums (refused 2) (given value)) ≡ refused n
-          → ask few (refuse 1) (ask sums (refuse 2) answer) ≡ refuse n
-      by-questions true true e = let z : _≡_ {A = ℕ} 0 1 = cc in absurd (omega arith)
-      by-questions true false e = let same : 2 ≡ n = cc in ap refuse same
-      by-questions false sums e = let same : 1 ≡ n = cc in ap refuse same
+  word-refused refuse answer n e = two-refused 1 2 value refuse answer n (leb (genus w) 32) (closed w) e
 
   -- a value is given just of accepted words, and it is theirs
   pub word-given : (r : B) → askWord refused w (given value) ≡ given r → Accepted w × (r ≡ value)
   unfolding askWord
-  word-given r e = by-questions (leb (genus w) 32) refl (closed w) refl e
-    where
-      by-questions : (few : Bool) → leb (genus w) 32 ≡ few → (sums : Bool) → closed w ≡ sums
-          → ask few (refused 1) (ask sums (refused 2) (given value)) ≡ given r → Accepted w × (r ≡ value)
-      by-questions true p true q e = let same : r ≡ value = cc in (record { closed = q; few = leb-true (genus w) 32 p }, same)
-      by-questions true p false q e = let z : _≡_ {A = ℕ} 0 1 = cc in absurd (omega arith)
-      by-questions false p sums q e = let z : _≡_ {A = ℕ} 0 1 = cc in absurd (omega arith)
+  word-given r e =
+      let (few, sums, same) = two-given 1 2 value r (leb (genus w) 32) (closed w) e in
+      (record { closed = sums; few = leb-true (genus w) 32 few }, sym same)
 
 -- the same of a look
 pub asked-refused : {A : Type 0} (refuse : ℕ → A) (w : ℕ) (answer : A) (n : ℕ) → lookOf w ≡ refused n → askWord refuse w answer ≡ refuse n
@@ -205,39 +227,43 @@ accepted-iff w fits = (
   λ (s, few). asked refused w (given (reportOf w)) record { closed = closed-iff w fits .1 s; few = few },
 )
 
--- ---- numbers of a word into a lent list
+-- ---- numbers into a lent list
 
-module _ (w : ℕ) (l lent : List ℕ) where
-  -- the ending by the three questions
+-- what is left after three questions, with these numbers, and l in the lent list
+module _ (a b c : ℕ) (l lent : List ℕ) where
+  -- the ending by the three tests
   abbrev by-tests : Bool → Bool → Bool → ListAnswer
-  by-tests few sums holds = ask few (unchanged lent 1) (ask sums (unchanged lent 2) (ask holds (unchanged lent 6) (filled l lent)))
+  by-tests p q r = ask p (unchanged lent a) (ask q (unchanged lent b) (ask r (unchanged lent c) (filled l lent)))
 
+  -- a number is told where all are answered yes: how many l has, with all of it in front
+  pub tests-given : (n : ℕ) (p q r : Bool) → by-tests p q r .answer ≡ given n
+      → (p ≡ true) × (q ≡ true) × (n ≡ length l) × (by-tests p q r .list ≡ fronted l lent)
+  tests-given n true true true e = let count : n ≡ length l = cc in (refl, refl, count, refl)
+  tests-given n true true false e = let z : _≡_ {A = ℕ} 0 1 = cc in absurd (omega arith)
+  tests-given n true false r e = let z : _≡_ {A = ℕ} 0 1 = cc in absurd (omega arith)
+  tests-given n false q r e = let z : _≡_ {A = ℕ} 0 1 = cc in absurd (omega arith)
+
+  -- a refusal has the number of one of the three, and writes nothing
+  pub tests-refused : (n : ℕ) (p q r : Bool) → by-tests p q r .answer ≡ refused n → (by-tests p q r .list ≡ lent) × ((n ≡ a) ⊎ ((n ≡ b) ⊎ (n ≡ c)))
+  tests-refused n true true true e = let z : _≡_ {A = ℕ} 0 1 = cc in absurd (omega arith)
+  tests-refused n true true false e = (refl, inr (inr cc))
+  tests-refused n true false r e = (refl, inr (inl cc))
+  tests-refused n false q r e = (refl, inl cc)
+
+-- numbers of a word
+module _ (w : ℕ) (l lent : List ℕ) where
   -- a number and a list are told just of accepted words: how many numbers there are, and the lent list with all of them in front
   pub list-given : (after : List ℕ) (n : ℕ) → listedInto w l lent ≡ giving n after
       → Accepted w × (n ≡ length l) × (after ≡ fronted l lent)
   unfolding listedInto askWord
-  list-given after n e = by-questions (leb (genus w) 32) refl (closed w) refl (leb (length l) (length lent)) e
-    where
-      by-questions : (few : Bool) → leb (genus w) 32 ≡ few → (sums : Bool) → closed w ≡ sums → (holds : Bool)
-          → by-tests few sums holds ≡ giving n after → Accepted w × (n ≡ length l) × (after ≡ fronted l lent)
-      by-questions true p true q true e =
-          let same : given (length l) ≡ given n = ap (λ (r : ListAnswer). r .answer) e in
-          let count : n ≡ length l = cc in
-          (record { closed = q; few = leb-true (genus w) 32 p }, count, sym (ap (λ (r : ListAnswer). r .list) e))
-      by-questions true p true q false e = let z : _≡_ {A = ℕ} 0 1 = cc (ap (λ (r : ListAnswer). r .answer) e) in absurd (omega arith)
-      by-questions true p false q holds e = let z : _≡_ {A = ℕ} 0 1 = cc (ap (λ (r : ListAnswer). r .answer) e) in absurd (omega arith)
-      by-questions false p sums q holds e = let z : _≡_ {A = ℕ} 0 1 = cc (ap (λ (r : ListAnswer). r .answer) e) in absurd (omega arith)
+  list-given after n e =
+      let (few, sums, count, list) = tests-given 1 2 6 l lent n (leb (genus w) 32) (closed w) (leb (length l) (length lent)) (ap (λ (r : ListAnswer). r .answer) e) in
+      (record { closed = sums; few = leb-true (genus w) 32 few }, count, sym (ap (λ (r : ListAnswer). r .list) e) ∙ list)
 
   -- a refusal writes nothing
   pub refusal-unchanged : (n : ℕ) → listedInto w l lent .answer ≡ refused n → listedInto w l lent .list ≡ lent
   unfolding listedInto askWord
-  refusal-unchanged n e = by-questions (leb (genus w) 32) (closed w) (leb (length l) (length lent)) e
-    where
-      by-questions : (few sums holds : Bool) → by-tests few sums holds .answer ≡ refused n → by-tests few sums holds .list ≡ lent
-      by-questions true true true e = absurd (let z : _≡_ {A = ℕ} 0 1 = cc in omega arith)
-      by-questions true true false e = refl
-      by-questions true false holds e = refl
-      by-questions false sums holds e = refl
+  refusal-unchanged n e = tests-refused 1 2 6 l lent n (leb (genus w) 32) (closed w) (leb (length l) (length lent)) e .0
 
   module _ (h : Accepted w) where
     list-asked : listedInto w l lent ≡ ask (leb (length l) (length lent)) (unchanged lent 6) (filled l lent)

@@ -793,6 +793,10 @@ module _ (l out : List ℕ) where
       (ap (λ (n : ℕ). drop n (l ++ drop (length l) out)) (length-append l k) ∙ drop-append-add l (drop (length l) out) (length k)
       ∙ drop-drop (length k) (length l) out ∙ ap (λ (n : ℕ). drop n out) (sym (length-append l k)))
 
+  -- written again
+  pub fronted-again : fronted l (fronted l out) ≡ fronted l out
+  fronted-again = rw (append-nil l) at (fronted-on [])
+
   -- written on from the place after l
   pub fronted-twice : (k next : List ℕ) (at : ℕ) → at ≡ length l → next ≡ fronted l out → fronted (take at next ++ k) next ≡ fronted (l ++ k) out
   fronted-twice k next at p q =

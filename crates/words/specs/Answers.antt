@@ -13,7 +13,7 @@ use Rattle.words.specs.Sets.{Set, HasGenus, MultiplicityOf, SignedLarges
 use Rattle.words.specs.Words.{genus, reportedConductor, signedLargestGap, closed}
 use Rattle.words.specs.Elements.{multiplicity}
 use Rattle.words.specs.declared.Refusal.{Refusal}
-use Rattle.words.specs.declared.Refusal.the-variants.{TooManyGaps, NotClosed, GenusTooLarge, WalkOutOfOrder, NotAGenerator, ListTooShort, ZeroGenerator, CommonDivisor, TooManyGapsGenerated, MalformedInput, ZeroCoordinate, CoordinateSumTooLarge, FailedInequality, EditorOutOfOrder, EditorFull, ByteNotHeld}
+use Rattle.words.specs.declared.Refusal.the-variants.{TooManyGaps, NotClosed, GenusTooLarge, WalkOutOfOrder, NotAGenerator, ListTooShort, ZeroGenerator, CommonDivisor, TooManyGapsGenerated, MalformedInput, ZeroCoordinate, CoordinateSumTooLarge, FailedInequality, EditorOutOfOrder, EditorFull, ByteNotHeld, WrongJobVersion, WrongJobLength, WrongJobFields}
 use Rattle.words.specs.declared.Report.{Report}
 use Rattle.words.specs.declared.NumberAnswer.{NumberAnswer}
 use Rattle.words.specs.declared.NumberAnswer.the-variants as N
@@ -52,6 +52,9 @@ numberOf FailedInequality = 13
 numberOf EditorOutOfOrder = 14
 numberOf EditorFull = 15
 numberOf ByteNotHeld = 16
+numberOf WrongJobVersion = 17
+numberOf WrongJobLength = 18
+numberOf WrongJobFields = 19
 
 -- what the cases of `NumberAnswer` say
 abbrev pub answered : NumberAnswer → Answer ℕ

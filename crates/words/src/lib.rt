@@ -78,6 +78,9 @@ pub enum Refusal {
     EditorOutOfOrder,
     EditorFull,
     ByteNotHeld,
+    WrongJobVersion,
+    WrongJobLength,
+    WrongJobFields,
 }
 
 impl Refusal {
@@ -102,6 +105,9 @@ impl Refusal {
             Refusal::EditorOutOfOrder => 14,
             Refusal::EditorFull => 15,
             Refusal::ByteNotHeld => 16,
+            Refusal::WrongJobVersion => 17,
+            Refusal::WrongJobLength => 18,
+            Refusal::WrongJobFields => 19,
         }
     }
 }
