@@ -34,6 +34,10 @@ inOrder w =
     cond (w .finished) (eqb (w .word) 0)
     (leb (genus (w .word)) 32 && closed (w .word) && eqb (genus (w .word)) (w .genus) && within (w .lowest) (w .highest) (multiplicity (w .word)))
 
+-- questions 3 and 4: is the genus at most 32, and is the walk in order
+abbrev pub askWalk : {A : Type 0} → (ℕ → A) → Walk → A → A
+askWalk refuse w answer = ask (leb (w .genus) 32) (refuse 3) (ask (inOrder w) (refuse 4) answer)
+
 -- ---- the fresh and the start calls
 
 -- a fresh walk of genus g in a window stands on the first semigroup of the window; where there is none, it is already finished
@@ -83,7 +87,7 @@ moved w r lent =
     }
 
 unfoldable pub batchOf : Walk → List ℕ → Ending
-batchOf w lent = ask (leb (w .genus) 32) (unmoved 3 w lent) (ask (inOrder w) (unmoved 4 w lent) (moved w (rest w) lent))
+batchOf w lent = askWalk (λ n. unmoved n w lent) w (moved w (rest w) lent)
 
 -- ---- the count call
 

@@ -222,7 +222,7 @@ fn first_leaf(n: Node, left: u64) -> Found
 }
 
 // Question 4: is the walk finished with word 0, or unfinished on an accepted word of its genus in its window?
-fn in_order(walk: Walk) -> bool
+pub fn in_order(walk: Walk) -> bool
     ensures { λ r. ⌜ r ≡ inOrder walk ⌝ }
 {
     let word = walk.word;
