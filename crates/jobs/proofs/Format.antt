@@ -1,0 +1,229 @@
+-- The format: where fields begin and end, what a version has, and that the fields a job is laid out with are those that are read from it.
+-- Assumes nothing.
+use Prim.Native.Nat.{ℕ, zero, suc, _+_, _*_, _^_, _≤_, _<_}
+use mathlib.Core.Path.{_≡_, refl, sym, _∙_, ap, ap₂, subst}
+use mathlib.Core.Logic.{_≢_}
+use mathlib.Core.Bool.{true, false, cond, not, _||_, and-eq-true-iff}
+use mathlib.Core.List.{List, [], _∷_, _++_, append-assoc, append-nil}
+use native.Mathlib.Omega.{arith}
+use native.Mathlib.Decide.{ℕ-discrete}
+use native.Mathlib.Nat.{add-zero, add-suc, le-of-eq, le-trans, le-dest, mod-eq-of-lt}
+use lib.Dec.{leb}
+use borrow.Author.Tests.{leb-true, le-leb, ne-eqb}
+use lib.ListN.{length, getD, take, drop, length-take, List·getD-eq-default}
+use lib.Seq.{take-all, take-add, take-at, drop-at}
+use Rattle.words.specs.Lists.{run, every, memberOf, joined, sumOver}
+use Rattle.words.specs.Words.{bit}
+use Rattle.words.proofs.Booleans.{by-value}
+use Rattle.words.proofs.Lists.{run-last, joined-append, sum-append, length-joined, sum-same}
+use Rattle.jobs.specs.Bytes.{Bytes, bytesOf, valueOf}
+use Rattle.jobs.specs.Format.{fieldWidth, versionHas, bitsBefore, fieldSize, fieldPlace, jobLength, laidBefore, laid, mapIn, fieldIn, hasVersion, versionIn}
+use Rattle.jobs.specs.SavedJobs.{fieldsIn}
+use Rattle.jobs.proofs.Bytes.{bytes-length, bytes-value, value-bytes, bytes-part, part-length, value-lt, fewer-bytes}
+
+-- ---- bits and their fields
+
+-- the genus and the two multiplicities
+pub byte-bits : (v i : ℕ) → i ≤ 2 → (1 ≡ fieldWidth i) × (true ≡ versionHas v i)
+unfolding fieldWidth versionHas memberOf every
+byte-bits v zero h = (refl, refl)
+byte-bits v (suc zero) h = (refl, refl)
+byte-bits v (suc (suc zero)) h = (refl, refl)
+byte-bits v (suc (suc (suc i))) h = absurd (omega arith)
+
+-- bit 6, and numbers that are no bit of a byte
+pub no-bits : (v i : ℕ) → 2 < i → i ≢ 3 → i ≢ 4 → i ≢ 5 → i ≢ 7 → (0 ≡ fieldWidth i) × (false ≡ versionHas v i)
+unfolding fieldWidth versionHas memberOf every
+no-bits v i low a b c d = (
+  elim (ℕ-discrete i 6) [
+    | yes e ↦ rw e refl
+    | no e ↦ sym (List·getD-eq-default (1 ∷ 1 ∷ 1 ∷ 8 ∷ 8 ∷ 0 ∷ 0 ∷ 1 ∷ []) 0 {n = i} (omega arith))
+  ],
+  rw (ne-eqb 0 i (λ e. omega arith), ne-eqb 1 i (λ e. omega arith), ne-eqb 2 i (λ e. omega arith), ne-eqb 3 i (λ e. a (sym e)), ne-eqb 5 i (λ e. c (sym e)), ne-eqb 7 i (λ e. d (sym e)), ne-eqb i 4 b)
+      refl,
+)
+
+-- a field has at most 8 bytes
+pub width-le : (i : ℕ) → fieldWidth i ≤ 8
+unfolding fieldWidth every
+width-le i = entry-le (1 ∷ 1 ∷ 1 ∷ 8 ∷ 8 ∷ 0 ∷ 0 ∷ 1 ∷ []) 8 refl i
+  where
+    entry-le : (l : List ℕ) (n : ℕ) → every (λ x. leb x n) l ≡ true → (i : ℕ) → getD l i 0 ≤ n
+    entry-le [] n e i = omega arith
+    entry-le (x ∷ l) n e zero = leb-true x n (and-eq-true-iff (leb x n) (every (λ y. leb y n) l) .0 e .0)
+    entry-le (x ∷ l) n e (suc i) = entry-le l n (and-eq-true-iff (leb x n) (every (λ y. leb y n) l) .0 e .1) i
+
+-- where its bit stands, just these
+pub size-standing : (m i : ℕ) → bit m i ≡ true → fieldSize m i ≡ fieldWidth i
+unfolding fieldSize
+size-standing m i e = rw e
+
+-- no more in any job
+pub size-le-width : (m i : ℕ) → fieldSize m i ≤ fieldWidth i
+unfolding fieldSize
+size-le-width m i = by-value (bit m i) (λ e. rw e (omega arith)) (λ e. rw e (omega arith))
+
+pub size-le : (m i : ℕ) → fieldSize m i ≤ 8
+size-le m i = le-trans (size-le-width m i) (width-le i)
+
+-- ---- places
+
+module _ (m : ℕ) where
+  -- the next field begins where a field ends
+  pub place-next : (i : ℕ) → fieldPlace m (suc i) ≡ fieldPlace m i + fieldSize m i
+  unfolding fieldPlace sumOver
+  place-next i = rw (run-last i) (omega (arith, sum-append (fieldSize m) (run 0 i) (i ∷ [])))
+
+  -- a later field begins no earlier
+  place-after : (i k : ℕ) → fieldPlace m i ≤ fieldPlace m (i + k)
+  place-after i zero = le-of-eq (ap (fieldPlace m) (sym (add-zero i)))
+  place-after i (suc k) = omega (arith, place-after i k, place-next (i + k), ap (fieldPlace m) (add-suc i k))
+
+  pub place-within : (i j : ℕ) → i ≤ j → fieldPlace m i ≤ fieldPlace m j
+  place-within i j h = let (k, e) = le-dest h in subst (λ (n : ℕ). fieldPlace m i ≤ fieldPlace m n) e (place-after i k)
+
+  -- a field ends before the job does
+  pub field-within : (i : ℕ) → i < 7 → fieldPlace m i + fieldSize m i ≤ jobLength m
+  field-within i h = omega (arith, place-next i, place-within (suc i) 7 h)
+
+  -- the first of them after the bit map and the version byte
+  pub first-place : fieldPlace m 0 ≡ 1 + fieldSize m 7
+  unfolding fieldPlace sumOver run
+  first-place = omega arith
+
+  -- all after the bit map
+  pub place-pos : (i : ℕ) → 0 < fieldPlace m i
+  unfolding fieldPlace
+  place-pos i = omega arith
+
+  -- places are small numbers
+  pub place-le : (i : ℕ) → fieldPlace m i ≤ 9 + i * 8
+  unfolding fieldPlace sumOver run
+  place-le zero = omega (arith, size-le m 7)
+  place-le (suc i) = omega (arith, place-next i, size-le m i, place-le i)
+
+-- ---- fields of a list of bytes
+
+-- a field has a number of as many bytes as its width
+pub field-lt : (job : List ℕ) → Bytes job → (i : ℕ) → fieldIn job i < 256 ^ fieldWidth i
+unfolding fieldIn
+field-lt job h i =
+    let m : ℕ = mapIn job in
+    let part : List ℕ = take (fieldSize m i) (drop (fieldPlace m i) job) in
+    let few : length part ≤ fieldWidth i = omega (arith, length-take (fieldSize m i) (drop (fieldPlace m i) job), size-le-width m i) in
+    fewer-bytes (valueOf part) (fieldWidth i) (value-lt part (bytes-part (fieldSize m i) (fieldPlace m i) job h)) few
+
+-- the genus and the two multiplicities are bytes
+pub byte-field : (job : List ℕ) → Bytes job → (i : ℕ) → i ≤ 2 → fieldIn job i < 256
+byte-field job h i low = subst (λ (n : ℕ). fieldIn job i < 256 ^ n) (sym (byte-bits 1 i low .0)) (field-lt job h i)
+
+-- ---- the version
+
+-- a job that is as long as its version byte has a bit map
+pub has-map : (job : List ℕ) → hasVersion job ≡ true → 1 ≤ length job
+unfolding hasVersion
+has-map job h = leb-true 1 (length job) (and-eq-true-iff (leb 1 (length job)) (not (bit (mapIn job) 7) || leb 2 (length job)) .0 h .0)
+
+-- and a version byte where bit 7 stands
+pub has-version-byte : (job : List ℕ) → hasVersion job ≡ true → bit (mapIn job) 7 ≡ true → 2 ≤ length job
+unfolding hasVersion
+has-version-byte job h e = leb-true 2 (length job) (rw e at (and-eq-true-iff (leb 1 (length job)) (not (bit (mapIn job) 7) || leb 2 (length job)) .0 h .1))
+
+-- ---- jobs that are laid out
+
+module _ (m : ℕ) (value : ℕ → ℕ) where
+  -- its bit map
+  pub laid-map : mapIn (laid m value) ≡ m
+  unfolding laidBefore
+  laid-map = refl
+
+  -- one field more
+  pub laid-next : (i : ℕ) → laidBefore m value (suc i) ≡ laidBefore m value i ++ bytesOf (fieldSize m i) (value i)
+  unfolding laidBefore joined
+  laid-next i =
+      let field : ℕ → List ℕ = λ j. bytesOf (fieldSize m j) (value j) in
+      ap (λ (l : List ℕ). m ∷ joined field (7 ∷ l)) (run-last i)
+      ∙ ap (λ (l : List ℕ). m ∷ l) (joined-append field (bitsBefore i) (i ∷ []) ∙ ap (λ (l : List ℕ). joined field (bitsBefore i) ++ l) (append-nil (field i)))
+
+  -- the fields before that of a bit end where it begins
+  pub laid-length : (i : ℕ) → length (laidBefore m value i) ≡ fieldPlace m i
+  unfolding laidBefore fieldPlace
+  laid-length i =
+      let sizes : length (joined (λ j. bytesOf (fieldSize m j) (value j)) (bitsBefore i)) ≡ sumOver (fieldSize m) (bitsBefore i) =
+      length-joined (λ j. bytesOf (fieldSize m j) (value j)) (bitsBefore i)
+      ∙ sum-same (λ j. length (bytesOf (fieldSize m j) (value j))) (fieldSize m) (bitsBefore i) (λ j h. bytes-length (fieldSize m j) (value j)) in
+      omega (arith, sizes)
+
+  -- more fields follow them
+  laid-after : (i k : ℕ) → (l : List ℕ) × (laidBefore m value i ++ l ≡ laidBefore m value (i + k))
+  laid-after i zero = ([], append-nil (laidBefore m value i) ∙ ap (laidBefore m value) (sym (add-zero i)))
+  laid-after i (suc k) =
+      let (l, e) = laid-after i k in
+      let more : List ℕ = bytesOf (fieldSize m (i + k)) (value (i + k)) in (
+        l ++ more,
+        sym (append-assoc (laidBefore m value i) l more) ∙ ap (λ (f : List ℕ). f ++ more) e ∙ sym (laid-next (i + k)) ∙ ap (laidBefore m value) (sym (add-suc i k)),
+      )
+
+  pub laid-on : (i j : ℕ) → i ≤ j → (l : List ℕ) × (laidBefore m value i ++ l ≡ laidBefore m value j)
+  laid-on i j h = let (k, e) = le-dest h in subst (λ (n : ℕ). (l : List ℕ) × (laidBefore m value i ++ l ≡ laidBefore m value n)) e (laid-after i k)
+
+  -- the field of a bit is read from a job as it was laid out
+  pub laid-field : (i : ℕ) → i < 7 → value i < 256 ^ fieldSize m i → fieldIn (laid m value) i ≡ value i
+  unfolding fieldIn laidBefore
+  laid-field i below fits =
+      let (l, whole) = laid-on (suc i) 7 below in
+      let front : List ℕ = laidBefore m value i in
+      let bytes : List ℕ = bytesOf (fieldSize m i) (value i) in
+      let parts : laid m value ≡ front ++ (bytes ++ l) =
+      sym whole ∙ ap (λ (f : List ℕ). f ++ l) (laid-next i) ∙ append-assoc front bytes l in
+      let first : mapIn (laid m value) ≡ m = laid-map in
+      rw first
+      (ap (λ (j : List ℕ). valueOf (take (fieldSize m i) (drop (fieldPlace m i) j))) parts
+      ∙ ap (λ (j : List ℕ). valueOf (take (fieldSize m i) j)) (drop-at front (bytes ++ l) (fieldPlace m i) (laid-length i))
+      ∙ ap valueOf (take-at bytes l (fieldSize m i) (bytes-length (fieldSize m i) (value i)))
+      ∙ bytes-value (fieldSize m i) (value i) fits)
+
+  -- it is as long as its version byte
+  pub laid-has-version : hasVersion (laid m value) ≡ true
+  unfolding hasVersion laidBefore fieldWidth
+  laid-has-version =
+      let long = laid-length 7 in
+      let room = place-within m 0 7 (omega arith) in
+      rw (le-leb 1 (length (laid m value)) (omega (arith, long, place-pos m 7)))
+      (by-value (bit m 7) (λ e. rw (e, le-leb 2 (length (laid m value)) (omega (arith, long, room, first-place m, size-standing m 7 e)))) (λ e. rw e))
+
+  -- its version
+  pub laid-version : value 7 < 256 → versionIn (laid m value) ≡ cond (bit m 7) (value 7) 1
+  unfolding versionIn laidBefore joined bytesOf fieldSize fieldWidth
+  laid-version h = by-value (bit m 7) (λ e. rw e (mod-eq-of-lt h)) (λ e. rw e)
+
+-- ---- jobs of any list of bytes
+
+-- the bit map and the version byte are in front
+head-laid : (job : List ℕ) → Bytes job → hasVersion job ≡ true → laidBefore (mapIn job) (fieldsIn job) 0 ≡ take (1 + fieldSize (mapIn job) 7) job
+unfolding laidBefore joined run fieldSize fieldWidth bytesOf versionIn
+head-laid [] h v = absurd (omega (arith, has-map [] v))
+head-laid (x ∷ []) h v = by-value (bit x 7) (λ e. absurd (omega (arith, has-version-byte (x ∷ []) v e))) (λ e. rw e refl)
+head-laid (x ∷ y ∷ l) h v = by-value (bit x 7) (λ e. rw e (ap (λ (z : ℕ). x ∷ z ∷ []) (mod-eq-of-lt (h 1)))) (λ e. rw e refl)
+
+module _ (job : List ℕ) (bytes : Bytes job) (versioned : hasVersion job ≡ true) (whole : length job ≡ jobLength (mapIn job)) where
+  abbrev map : ℕ
+  map = mapIn job
+
+  -- and the fields before that of bit i
+  front-laid : (i : ℕ) → i ≤ 7 → laidBefore map (fieldsIn job) i ≡ take (fieldPlace map i) job
+  unfolding fieldIn
+  front-laid zero h = head-laid job bytes versioned ∙ ap (λ (n : ℕ). take n job) (sym (first-place map))
+  front-laid (suc i) h =
+      let size : ℕ = fieldSize map i in
+      let part : List ℕ = take size (drop (fieldPlace map i) job) in
+      laid-next map (fieldsIn job) i
+      ∙ ap₂ _++_ (front-laid i (omega arith))
+      (rw (ne-eqb i 7 (λ e. omega arith))
+      (ap (λ (n : ℕ). bytesOf n (valueOf part)) (sym (part-length (fieldPlace map i) size job (omega (arith, whole, field-within map i h))))
+      ∙ value-bytes part (bytes-part size (fieldPlace map i) job bytes)))
+      ∙ sym (ap (λ (n : ℕ). take n job) (place-next map i) ∙ take-add (fieldPlace map i) size job)
+
+  -- so that it is laid out of its fields
+  pub job-laid : laid map (fieldsIn job) ≡ job
+  job-laid = front-laid 7 (omega arith) ∙ take-all (jobLength map) job (le-of-eq whole)

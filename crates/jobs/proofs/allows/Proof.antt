@@ -1,0 +1,20 @@
+-- `jobs::allows` meets its contract. Assumes nothing.
+use mathlib.Core.Path.{sym, _∙_}
+use borrow.Author.Needs.{needs}
+use Rattle.jobs.proofs.allows.Statement.{statement}
+use Rattle.jobs.proofs.allows.Tie as tie
+
+stands-requires : tie.Need-stands-requires
+stands-requires c κs = search needs
+
+form-of-requires : tie.Need-form-of-requires
+form-of-requires c κs = search needs
+
+returns : tie.Need-returns
+returns c = rw (sym (c .before .before .stands .ensures) ∙ c .before .if1 .taken) (c .form-of .ensures .1)
+
+returns-2 : tie.Need-returns-2
+returns-2 c = rw (sym (c .before .stands .ensures) ∙ c .if1 .left)
+
+pub allows-spec : {M : Type 1} → statement M
+allows-spec = tie.close (tie.spec stands-requires form-of-requires returns returns-2)
