@@ -6,7 +6,7 @@ use mathlib.Core.List.{List, [], _∷_}
 use mathlib.Core.Option.{Option, none, some}
 use lib.Dec.{eqb, leb}
 use lib.IntN.{pos}
-use Rattle.words.specs.Answers.{Answer, refused, given, ask}
+use Rattle.words.specs.Answers.{Answer, refused, given, ask, ListAnswer, unchanged}
 use Rattle.words.specs.declared.Report.{Report}
 use Rattle.tables.specs.declared.Table.{Table}
 use Rattle.editor.specs.Changes.{Change}
@@ -14,6 +14,8 @@ use Rattle.editor.specs.States.{State, Outcome, changeOf}
 use Rattle.walk.specs.declared.Walk.{Walk}
 use Rattle.walk.specs.declared.Written.{Written}
 use Rattle.walk.specs.Walks.{Ending, batchOf}
+use Rattle.jobs.specs.declared.Saved.{Saved}
+use Rattle.jobs.specs.Jobs.{writeOf}
 use Rattle.atlas.specs.declared.AtlasNumber.{AtlasNumber}
 use Rattle.atlas.specs.declared.AtlasTable.{AtlasTable}
 use Rattle.atlas.specs.declared.AtlasFound.{AtlasFound}
@@ -22,6 +24,7 @@ use Rattle.atlas.specs.declared.AtlasReport.{AtlasReport}
 use Rattle.atlas.specs.declared.AtlasWalk.{AtlasWalk}
 use Rattle.atlas.specs.declared.AtlasBegun.{AtlasBegun}
 use Rattle.atlas.specs.declared.AtlasMoved.{AtlasMoved}
+use Rattle.atlas.specs.declared.AtlasSaved.{AtlasSaved}
 use Rattle.atlas.specs.declared.AtlasEditor.{AtlasEditor}
 use Rattle.atlas.specs.declared.AtlasChanged.{AtlasChanged}
 
@@ -70,9 +73,13 @@ walkIn w = record { genus = w .genus; word = w .word; lowest = w .lowest; highes
 abbrev pub walkFrom : AtlasWalk → Walk
 walkFrom w = record { genus = w .genus; word = w .word; lowest = w .lowest; highest = w .highest; finished = eqb (w .finished) 1 }
 
+-- and where there is none
+abbrev pub noWalk : AtlasWalk
+noWalk = record { genus = 0; word = 0; lowest = 0; highest = 0; finished = 0 }
+
 -- a walk that a call began
 abbrev pub begunIn : Answer Walk → AtlasBegun
-begunIn (refused n) = record { refused = n; walk = record { genus = 0; word = 0; lowest = 0; highest = 0; finished = 0 } }
+begunIn (refused n) = record { refused = n; walk = noWalk }
 begunIn (given w) = record { refused = 0; walk = walkIn w }
 
 -- how a batch ended: refused, with the walk as it was given
@@ -95,6 +102,17 @@ batchIn w lent =
     ask (leb (w .genus) 32) record { answer = unmovedIn 3 w; list = lent }
     (ask (leb (w .finished) 1) record { answer = unmovedIn 4 w; list = lent }
     (let ending : Ending = batchOf (walkFrom w) lent in record { answer = movedIn (ending .walk) (ending .answer); list = ending .list }))
+
+-- ---- saved jobs
+
+-- what a job keeps, as they get it
+abbrev pub savedIn : Answer Saved → AtlasSaved
+savedIn (refused n) = record { refused = n; walk = noWalk; written = 0 }
+savedIn (given s) = record { refused = 0; walk = walkIn (s .walk); written = s .written }
+
+-- writing a job: question 3; then question 4, where a finished mark that is neither 0 nor 1 is a walk out of order; then 6
+unfoldable pub writtenIn : AtlasWalk → ℕ → List ℕ → ListAnswer
+writtenIn w n lent = ask (leb (w .genus) 32) (unchanged lent 3) (ask (leb (w .finished) 1) (unchanged lent 4) (writeOf (walkFrom w) n lent))
 
 -- ---- a list of generators that changes
 

@@ -9,6 +9,7 @@ ghost use Rattle.words.specs.Answers.{answered, sought, soughtAnswered, looked,
 ghost use Rattle.tables.specs.Answers.{tabled, tableOf, childOf, grandchildrenOf};
 ghost use Rattle.walk.specs.Answers.{begun, reported};
 ghost use Rattle.walk.specs.Walks.{freshOf, freshInOf, startOf, startInOf, countOf, firstDescendantOf};
+ghost use Rattle.jobs.specs.Jobs.{readAs, readOf};
 ghost use Rattle.generators.specs.Generators.{generatorsOf, wordFromOf};
 ghost use Rattle.elementary.specs.Answers.{elementaryOf};
 ghost use Rattle.kunz.specs.Coordinates.{coordinatesOf, wordFromCoordinatesOf};
@@ -16,11 +17,12 @@ ghost use Rattle.census.specs.Census.{censusOf};
 ghost use Rattle.search.specs.Wanted.{findOf};
 ghost use Rattle.editor.specs.Changes.{addition, removal};
 ghost use Rattle.editor.specs.States.{said, stateOf, told};
-ghost use Rattle.atlas.specs.Interface.{numberIn, tableIn, foundIn, shortestIn, reportIn, walkIn, begunIn, unmovedIn, movedIn, batchIn, editorIn, editorFrom, answerFrom, unchangedIn, changedIn, changeIn};
+ghost use Rattle.atlas.specs.Interface.{numberIn, tableIn, foundIn, shortestIn, reportIn, walkIn, walkFrom, noWalk, begunIn, unmovedIn, movedIn, batchIn, savedIn, writtenIn, editorIn, editorFrom, answerFrom, unchangedIn, changedIn, changeIn};
 ghost use Rattle.atlas.specs.Private.{isKept};
 use editor::ChangeAnswer;
 use editor::Changed;
 use editor::Editor;
+use jobs::JobAnswer;
 use tables::TableAnswer;
 use walk::BatchAnswer;
 use walk::Walk;
@@ -96,6 +98,14 @@ pub struct AtlasMoved {
     pub walk: AtlasWalk,
     pub count: usize,
     pub finished: bool,
+}
+
+// A walk and the number of words written so far that a job keeps, or the number of a refusal.
+#[repr(C)]
+pub struct AtlasSaved {
+    pub refused: u64,
+    pub walk: AtlasWalk,
+    pub written: u64,
 }
 
 // A list of generators that changes: sixteen places, the number of them that are held, and the kept answer.
@@ -220,6 +230,32 @@ fn walk_of(walk: Walk) -> AtlasWalk
     }
 }
 
+// A walk as they hand it over, with a finished mark of 0 or 1.
+fn walk_from(walk: AtlasWalk) -> Walk
+    ensures { λ r. ⌜ r ≡ walkFrom walk ⌝ }
+{
+    Walk {
+        genus: walk.genus,
+        word: walk.word,
+        lowest: walk.lowest,
+        highest: walk.highest,
+        finished: walk.finished == 1,
+    }
+}
+
+// What they get where there is no walk.
+fn no_walk() -> AtlasWalk
+    ensures { λ r. ⌜ r ≡ noWalk ⌝ }
+{
+    AtlasWalk {
+        genus: 0,
+        word: 0,
+        lowest: 0,
+        highest: 0,
+        finished: 0,
+    }
+}
+
 // A walk that a call began, as they get it.
 fn begun_of(answer: WalkAnswer) -> AtlasBegun
     ensures { λ r. ⌜ r ≡ begunIn (begun answer) ⌝ }
@@ -227,13 +263,7 @@ fn begun_of(answer: WalkAnswer) -> AtlasBegun
     match answer {
         WalkAnswer::Refused(refusal) => AtlasBegun {
             refused: refusal.number(),
-            walk: AtlasWalk {
-                genus: 0,
-                word: 0,
-                lowest: 0,
-                highest: 0,
-                finished: 0,
-            },
+            walk: no_walk(),
         },
         WalkAnswer::Given(walk) => AtlasBegun {
             refused: 0,
@@ -266,6 +296,24 @@ fn moved_of(walk: Walk, answer: BatchAnswer) -> AtlasMoved
             walk,
             count: written.count,
             finished: written.finished,
+        },
+    }
+}
+
+// What a job keeps, as they get it.
+fn saved_of(answer: JobAnswer) -> AtlasSaved
+    ensures { λ r. ⌜ r ≡ savedIn (readAs answer) ⌝ }
+{
+    match answer {
+        JobAnswer::Refused(refusal) => AtlasSaved {
+            refused: refusal.number(),
+            walk: no_walk(),
+            written: 0,
+        },
+        JobAnswer::Given(saved) => AtlasSaved {
+            refused: 0,
+            walk: walk_of(saved.walk),
+            written: saved.written,
         },
     }
 }
@@ -432,19 +480,33 @@ pub extern "C" fn atlas_batch(walk: AtlasWalk, out: &mut [u64]) -> AtlasMoved
     if 1 < walk.finished {
         return unmoved_of(walk, Refusal::WalkOutOfOrder);
     }
-    let moved = walk::step(
-        Walk {
-            genus: walk.genus,
-            word: walk.word,
-            lowest: walk.lowest,
-            highest: walk.highest,
-            finished: walk.finished == 1,
-        },
-        out,
-    );
+    let moved = walk::step(walk_from(walk), out);
     let after = moved.walk;
     let answer = moved.answer;
     moved_of(after, answer)
+}
+
+// A walk and a number written as a job into a lent list, and the job's length. Questions 3, 4, 6; a finished mark that is neither 0 nor 1 is no
+// walk in order.
+#[no_mangle]
+pub extern "C" fn atlas_job_write(walk: AtlasWalk, written: u64, out: &mut [u8]) -> AtlasNumber
+    ensures { λ r. ⌜ (r ≡ numberIn (writtenIn walk written (now (out .entry)) .answer)) × (now (out .exit) ≡ writtenIn walk written (now (out .entry)) .list) ⌝ }
+{
+    if 32 < walk.genus {
+        return number_of(NumberAnswer::Refused(Refusal::GenusTooLarge));
+    }
+    if 1 < walk.finished {
+        return number_of(NumberAnswer::Refused(Refusal::WalkOutOfOrder));
+    }
+    number_of(jobs::write(walk_from(walk), written, out))
+}
+
+// The walk and the number written that a job of version 1 or 2 keeps. Questions 18, 17, 18, 19, 3, 4.
+#[no_mangle]
+pub extern "C" fn atlas_job_read(job: &[u8]) -> AtlasSaved
+    ensures { λ r. ⌜ r ≡ savedIn (readOf 2 (now (job .entry))) ⌝ }
+{
+    saved_of(jobs::read(job))
 }
 
 // The number of semigroups of a genus whose smallest gaps are exactly the word's. Questions 1, 2, 3.

@@ -9,6 +9,9 @@ enum-known-answer c = search needs
 number-requires : tie.Need-number-requires
 number-requires c κs = search needs
 
+no-walk-requires : tie.Need-no-walk-requires
+no-walk-requires c κs = search needs
+
 enum-known-answer-2 : tie.Need-enum-known-answer-2
 enum-known-answer-2 c = search needs
 
@@ -16,9 +19,7 @@ walk-of-requires : tie.Need-walk-of-requires
 walk-of-requires c κs = search needs
 
 returns : tie.Need-returns
-returns c =
-    rw (c .before .before .answer .given .1)
-    (λ i. record { refused = c .number .ensures i; walk = record { genus = 0; word = 0; lowest = 0; highest = 0; finished = 0 } })
+returns c = rw (c .before .before .before .answer .given .1) (λ i. record { refused = c .before .number .ensures i; walk = c .no-walk .ensures i })
 
 returns-2 : tie.Need-returns-2
 returns-2 c = rw (c .before .before .answer2 .given .1) (λ i. record { refused = 0; walk = c .walk-of .ensures i })
@@ -26,4 +27,4 @@ returns-2 c = rw (c .before .before .answer2 .given .1) (λ i. record { refused 
 pub begun-of-spec : {M : Type 1} → statement M
 begun-of-spec =
     tie.close
-    (tie.spec enum-known-answer number-requires enum-known-answer-2 walk-of-requires returns returns-2)
+    (tie.spec enum-known-answer number-requires no-walk-requires enum-known-answer-2 walk-of-requires returns returns-2)
