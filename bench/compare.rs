@@ -1,10 +1,10 @@
 //! Random calls of the atlas, valid and damaged, openings of all small words, walks of all small windows, searches in all small genera, the
-//! census of every genus and all short histories of a list of generators, against an implementation from the plain definitions: sets of
-//! numbers, sums of two elements, gap lists. It uses no seed tables but those of definition 1.3, and no bit tricks but in the censuses of
-//! genus 19 and above, which are made by counts of leading and trailing bits. Searches and censuses in these genera are held to the lists of
-//! the atlas's own walk, the sums over each census to its count and its elementary counts, and the grandchildren of all words of three
-//! genera, together, to the known numbers of semigroups two genera on. Prints the seed, the number of calls of each kind and the number of
-//! differences, which must be 0.
+//! census of every genus, all short histories of a list of generators and all jobs of at most two bytes, against an implementation from the
+//! plain definitions: sets of numbers, sums of two elements, gap lists, and jobs read byte after byte. It uses no seed tables but those of
+//! definition 1.3, and no bit tricks but in the censuses of genus 19 and above, which are made by counts of leading and trailing bits. Searches
+//! and censuses in these genera are held to the lists of the atlas's own walk, the sums over each census to its count and its elementary
+//! counts, and the grandchildren of all words of three genera, together, to the known numbers of semigroups two genera on. Prints the seed, the
+//! number of calls of each kind and the number of differences, which must be 0.
 
 use std::collections::HashMap;
 
@@ -78,6 +78,14 @@ struct Shortest {
 
 #[repr(C)]
 #[derive(Clone, Copy, PartialEq, Debug)]
+struct Saved {
+    refused: u64,
+    walk: Walk,
+    written: u64,
+}
+
+#[repr(C)]
+#[derive(Clone, Copy, PartialEq, Debug)]
 struct Editor {
     bytes: [u8; 16],
     length: usize,
@@ -111,6 +119,8 @@ extern "C" {
     fn atlas_kunz(word: u64, out: *mut u8, length: usize) -> Number;
     fn atlas_word_from_kunz(list: *const u8, length: usize) -> Number;
     fn atlas_find(genus: u64, largest_gap: i8, multiplicity: u8) -> Found;
+    fn atlas_job_write(walk: Walk, written: u64, out: *mut u8, length: usize) -> Number;
+    fn atlas_job_read(job: *const u8, length: usize) -> Saved;
     fn atlas_editor_empty() -> Editor;
     fn atlas_editor_add(editor: Editor, byte: u8) -> Changed;
     fn atlas_editor_remove(editor: Editor, byte: u8) -> Changed;
@@ -521,6 +531,168 @@ fn census(genus: u64, tally: &Tally, mut lent: Vec<u64>) -> (Number, Vec<u64>) {
         }
     }
     (given(tally.iter().map(|((_, c), number)| c * number).sum()), lent)
+}
+
+/// Questions 3 and 4 of a walk.
+fn walk_refused(walk: &Walk) -> Option<u64> {
+    let Walk { genus, word, .. } = *walk;
+    let in_order = match walk.finished {
+        0 => word_refused(word).is_none() && gaps(word).len() as u64 == genus && within(word, walk.lowest, walk.highest),
+        1 => word == 0,
+        _ => false,
+    };
+    if genus > 32 {
+        Some(3)
+    } else if !in_order {
+        Some(4)
+    } else {
+        None
+    }
+}
+
+/// The first word of each genus with each multiplicity up to 33, or that there is none.
+struct Places(Vec<Vec<Option<u64>>>);
+
+impl Places {
+    fn new(words: &Words) -> Places {
+        let first = |genus, m| words.window(genus, m, m, 1).first().copied();
+        Places((0..=32).map(|genus| (0..=33).map(|m| first(genus, m)).collect()).collect())
+    }
+
+    /// Where the fresh walk of a window stands: in list order larger multiplicities come first.
+    fn fresh(&self, genus: u64, lowest: u8, highest: u8) -> Option<u64> {
+        (lowest..=highest.min(33)).rev().find_map(|m| self.0[genus as usize][m as usize])
+    }
+}
+
+/// The fields of a job that are there.
+#[derive(Clone, Copy, Debug)]
+struct Fields {
+    version: Option<u8>,
+    genus: Option<u8>,
+    lowest: Option<u8>,
+    highest: Option<u8>,
+    word: Option<u64>,
+    written: Option<u64>,
+    finished: bool,
+}
+
+impl Fields {
+    /// The job with just these fields.
+    fn job(&self) -> Vec<u8> {
+        let mut job = vec![0];
+        let mut put = |bit: u32, bytes: Option<Vec<u8>>| {
+            if let Some(bytes) = bytes {
+                job[0] += 2u8.pow(bit);
+                job.extend(bytes);
+            }
+        };
+        put(7, self.version.map(|byte| vec![byte]));
+        put(0, self.genus.map(|byte| vec![byte]));
+        put(1, self.lowest.map(|byte| vec![byte]));
+        put(2, self.highest.map(|byte| vec![byte]));
+        put(3, self.word.map(|number| number.to_le_bytes().to_vec()));
+        put(4, self.written.map(|number| number.to_le_bytes().to_vec()));
+        put(5, self.finished.then(Vec::new));
+        job
+    }
+
+    /// What they mean, where they are accepted.
+    fn meaning(&self, places: &Places) -> Saved {
+        let (genus, lowest, highest) = (self.genus.unwrap() as u64, self.lowest.unwrap_or(1), self.highest.unwrap_or(33));
+        let place = if self.finished { None } else { self.word.or_else(|| places.fresh(genus, lowest, highest)) };
+        Saved {
+            refused: 0,
+            walk: standing(genus, place, lowest, highest),
+            written: self.written.unwrap_or(0),
+        }
+    }
+}
+
+/// The job that is written for a walk in order: version 2, and every field but the word of a finished walk.
+fn job_of(walk: &Walk, written: u64) -> Vec<u8> {
+    let finished = walk.finished == 1;
+    let fields = Fields {
+        version: Some(2),
+        genus: Some(walk.genus as u8),
+        lowest: Some(walk.lowest),
+        highest: Some(walk.highest),
+        word: (!finished).then_some(walk.word),
+        written: Some(written),
+        finished,
+    };
+    fields.job()
+}
+
+/// The bytes of a job that are not read yet.
+struct Unread<'a>(&'a [u8]);
+
+impl Unread<'_> {
+    /// The next byte, or refusal 18 where there is none.
+    fn byte(&mut self) -> Result<u8, u64> {
+        let (&byte, rest) = self.0.split_first().ok_or(18u64)?;
+        self.0 = rest;
+        Ok(byte)
+    }
+
+    /// The number of the next 8 bytes, lowest byte first.
+    fn number(&mut self) -> Result<u64, u64> {
+        let mut number = 0;
+        for i in 0..8 {
+            number += self.byte()? as u64 * 256u64.pow(i);
+        }
+        Ok(number)
+    }
+}
+
+/// The walk and the number written that a job keeps, or the number of its refusal: it is read byte after byte.
+fn kept(job: &[u8], places: &Places) -> Result<(Walk, u64), u64> {
+    let mut unread = Unread(job);
+    let map = unread.byte()?;
+    let bit = |i: u32| map / 2u8.pow(i) % 2 == 1;
+    let version = if bit(7) { unread.byte()? } else { 1 };
+    if version != 1 && version != 2 || bit(6) || version == 1 && bit(4) {
+        return Err(17);
+    }
+    let genus = if bit(0) { unread.byte()? as u64 } else { 0 };
+    let lowest = if bit(1) { unread.byte()? } else { 1 };
+    let highest = if bit(2) { unread.byte()? } else { 33 };
+    let word = if bit(3) { unread.number()? } else { 0 };
+    let written = if bit(4) { unread.number()? } else { 0 };
+    if !unread.0.is_empty() {
+        return Err(18);
+    }
+    if !bit(0) || bit(3) && bit(5) {
+        return Err(19);
+    }
+    if genus > 32 {
+        return Err(3);
+    }
+    let place = if bit(5) {
+        None
+    } else if bit(3) {
+        Some(word)
+    } else {
+        places.fresh(genus, lowest, highest)
+    };
+    let walk = standing(genus, place, lowest, highest);
+    walk_refused(&walk).map_or(Ok((walk, written)), Err)
+}
+
+/// The answer to a job.
+fn saved(job: &[u8], places: &Places) -> Saved {
+    match kept(job, places) {
+        Ok((walk, written)) => Saved {
+            refused: 0,
+            walk,
+            written,
+        },
+        Err(refused) => Saved {
+            refused,
+            walk: not_begun(refused).walk,
+            written: 0,
+        },
+    }
 }
 
 // ---- random numbers
@@ -934,41 +1106,41 @@ fn rest(words: &Words, walk: Walk, most: usize) -> Vec<u64> {
     list
 }
 
+/// A walk on a word, or with another genus, another word or any finished byte.
+fn random_walk(word: u64, r: &mut Random) -> Walk {
+    let (lowest, highest) = bounds(multiplicity(word), r);
+    let (genus, word, finished) = match r.below(12) {
+        0 => (r.below(50), word, 0),
+        1 => (r.below(36), 0, 1),
+        2 => (r.below(34), r.below(3), r.below(2) as u8),
+        3 => (r.below(36), r.below(2) * word, [1, 2, 128, 255][r.below(4) as usize]),
+        4 => (gaps(word).len() as u64, word, [0, 0, 0, 1, 2, 255][r.below(6) as usize]),
+        _ => (gaps(word).len() as u64, word, 0),
+    };
+    Walk {
+        genus,
+        word,
+        lowest,
+        highest,
+        finished,
+    }
+}
+
 /// Batches of random walks; an answer and refusals of each number are met.
 fn batches(n: u64, words: &Words, r: &mut Random) -> Kind {
     let mut kind = Kind::new("batch");
     let mut met = [0u64; 14];
     for i in 0..n {
         let word = if i % 50 == 0 { words.any(r) } else { words.listed(14, r) };
-        let (lowest, highest) = bounds(multiplicity(word), r);
-        let (genus, word, finished) = match r.below(12) {
-            0 => (r.below(50), word, 0),
-            1 => (r.below(36), 0, 1),
-            2 => (r.below(34), r.below(3), r.below(2) as u8),
-            3 => (r.below(36), r.below(2) * word, [1, 2, 128, 255][r.below(4) as usize]),
-            4 => (gaps(word).len() as u64, word, [0, 0, 0, 1, 2, 255][r.below(6) as usize]),
-            _ => (gaps(word).len() as u64, word, 0),
-        };
-        let walk = Walk {
-            genus,
-            word,
-            lowest,
-            highest,
-            finished,
-        };
+        let walk = random_walk(word, r);
         let length = [0, 1, 2, 3, 7, 20][r.below(6) as usize];
         let lent: Vec<u64> = (0..length).map(|_| r.next()).collect();
         let mut ours = lent.clone();
         let ending = unsafe { atlas_batch(walk, ours.as_mut_ptr(), ours.len()) };
         met[ending.refused as usize] += 1;
-        let in_order = match finished {
-            0 => word_refused(word).is_none() && gaps(word).len() as u64 == genus && within(word, lowest, highest),
-            1 => word == 0,
-            _ => false,
-        };
-        let plain = if genus > 32 || !in_order {
+        let plain = if let Some(refused) = walk_refused(&walk) {
             let unmoved = Moved {
-                refused: if genus > 32 { 3 } else { 4 },
+                refused,
                 walk,
                 count: 0,
                 finished: false,
@@ -1617,6 +1789,206 @@ fn openings(n: u64, words: &Words, r: &mut Random) -> Kind {
     kind
 }
 
+/// Reads a job. Gives the plain answer.
+fn one_read(job: &[u8], places: &Places, kind: &mut Kind) -> Saved {
+    let plain = saved(job, places);
+    kind.same(unsafe { atlas_job_read(job.as_ptr(), job.len()) }, plain, &|| format!("{job:?}"));
+    plain
+}
+
+/// Reads the empty job and every job of one and of two bytes. An answer and refusals 3, 17, 18 and 19 are met; there is no word in them.
+fn short_jobs(places: &Places) -> Kind {
+    let mut kind = Kind::new("job read, of every job of at most two bytes");
+    let mut met = [0u64; 20];
+    let two = (0..=255).flat_map(|first| (0..=255).map(move |second| vec![first, second]));
+    for job in [vec![]].into_iter().chain((0..=255).map(|byte| vec![byte])).chain(two) {
+        met[one_read(&job, places, &mut kind).refused as usize] += 1;
+    }
+    assert!([0, 3, 17, 18, 19].iter().all(|&q| met[q] > 0), "each answer is met: {met:?}");
+    kind
+}
+
+/// A number of words that were written.
+fn random_written(r: &mut Random) -> u64 {
+    match r.below(4) {
+        0 => [0, 1, 255, 256, 1 << 32, 1 << 63, u64::MAX][r.below(7) as usize],
+        1 => r.below(20_000_000),
+        _ => r.next(),
+    }
+}
+
+/// Fields that are accepted: of either version, each absent at times but the genus; the word is left out where it is outside the window.
+fn accepted_fields(words: &Words, r: &mut Random) -> Fields {
+    let word = words.valid(r);
+    let (lowest, highest) = bounds(multiplicity(word), r);
+    let lowest = (r.below(3) > 0).then_some(lowest);
+    let highest = (r.below(3) > 0).then_some(highest);
+    let version = [None, Some(1), Some(2), Some(2)][r.below(4) as usize];
+    let place = r.below(4);
+    Fields {
+        version,
+        genus: Some(gaps(word).len() as u8),
+        lowest,
+        highest,
+        word: (place > 1 && within(word, lowest.unwrap_or(1), highest.unwrap_or(33))).then_some(word),
+        written: (version == Some(2) && r.below(4) > 0).then(|| random_written(r)),
+        finished: place == 0,
+    }
+}
+
+/// Reads accepted jobs; those without a number written in version 1, without and with a version byte, and in version 2: they mean the same.
+/// Walks on a given word, on the first of their window, finished by the mark and by an empty window are met.
+fn accepted_jobs(n: u64, words: &Words, places: &Places, r: &mut Random) -> Kind {
+    let mut kind = Kind::new("job read, of accepted jobs of both versions");
+    let mut met = [[0u64; 2]; 2];
+    for _ in 0..n {
+        let fields = accepted_fields(words, r);
+        let meaning = fields.meaning(places);
+        met[(fields.finished || fields.word.is_some()) as usize][meaning.walk.finished as usize] += 1;
+        let versions = if fields.written.is_none() { vec![None, Some(1), Some(2)] } else { vec![fields.version] };
+        for version in versions {
+            let plain = one_read(&Fields { version, ..fields }.job(), places, &mut kind);
+            assert!(plain == meaning, "the meaning of {fields:?}");
+        }
+    }
+    assert!(met.iter().flatten().all(|&q| q > n / 100), "each answer is met: {met:?}");
+    kind
+}
+
+/// The bytes that a byte of a job is changed to: all others in a short job; else those with one other bit, some that have a meaning in a job,
+/// and a random one.
+fn other_bytes(byte: u8, short: bool, r: &mut Random) -> Vec<u8> {
+    let bytes: Vec<u8> = if short {
+        (0..=255).collect()
+    } else {
+        (0..8).map(|i| byte ^ 1 << i).chain([0, 1, 2, 3, 32, 33, 255, r.next() as u8]).collect()
+    };
+    bytes.into_iter().filter(|&other| other != byte).collect()
+}
+
+/// Reads accepted jobs with each byte changed, cut to every length, and with one to three and with 65,536 bytes more. An answer and refusals of
+/// each number are met.
+fn changed_jobs(n: u64, words: &Words, places: &Places, r: &mut Random) -> Kind {
+    let mut kind = Kind::new("job read, of changed, cut and lengthened jobs");
+    let mut met = [0u64; 20];
+    for _ in 0..n {
+        let job = accepted_fields(words, r).job();
+        for (i, &byte) in job.iter().enumerate() {
+            for other in other_bytes(byte, job.len() <= 5, r) {
+                let mut changed = job.clone();
+                changed[i] = other;
+                met[one_read(&changed, places, &mut kind).refused as usize] += 1;
+            }
+            met[one_read(&job[..i], places, &mut kind).refused as usize] += 1;
+        }
+        for more in [1, 2, 3, 65_536] {
+            let mut longer = job.clone();
+            longer.extend((0..more).map(|_| [0, r.next() as u8][r.below(2) as usize]));
+            met[one_read(&longer, places, &mut kind).refused as usize] += 1;
+        }
+    }
+    assert!([0, 3, 4, 17, 18, 19].iter().all(|&q| met[q] > n / 2), "each answer is met: {met:?}");
+    kind
+}
+
+/// A job with any fields, most of them of an accepted one: with a wrong version or a bit that the version lacks, without a genus, with a word and
+/// finished, with any genus or any word, and at times with a byte less or more.
+fn random_job(words: &Words, r: &mut Random) -> Vec<u8> {
+    let mut fields = accepted_fields(words, r);
+    for _ in 0..r.below(3) {
+        match r.below(8) {
+            0 => fields.version = [None, Some(1), Some(2), Some(r.below(5) as u8), Some(r.next() as u8)][r.below(5) as usize],
+            1 => fields.genus = [None, Some(r.below(36) as u8), Some(r.next() as u8)][r.below(3) as usize],
+            2 => fields.lowest = Some(bound(r)),
+            3 => fields.highest = Some(bound(r)),
+            4 => fields.word = Some(words.any(r)),
+            5 => fields.word = fields.genus.map(|genus| word_of(&(1..=genus as u64 % 64).collect::<Vec<_>>())),
+            6 => fields.written = Some(random_written(r)),
+            _ => fields.finished = !fields.finished,
+        }
+    }
+    let mut job = fields.job();
+    match r.below(16) {
+        0 => job[0] |= 64,
+        1 => job.truncate(r.below(job.len() as u64) as usize),
+        2 => job.push(r.next() as u8),
+        _ => {}
+    }
+    job
+}
+
+/// Reads random bytes, of which half have a bit map without bit 6 and a version byte 1 or 2, and as many jobs with any fields. An answer and
+/// refusals of each number are met.
+fn random_jobs(n: u64, words: &Words, places: &Places, r: &mut Random) -> Kind {
+    let mut kind = Kind::new("job read, of random bytes and of any fields");
+    let mut met = [0u64; 20];
+    for i in 0..n {
+        let mut bytes: Vec<u8> = (0..r.below(25)).map(|_| r.next() as u8).collect();
+        if i % 2 == 0 && bytes.len() > 1 {
+            bytes[0] &= 0xbf;
+            bytes[1] = 1 + r.below(2) as u8;
+        }
+        for job in [bytes, random_job(words, r)] {
+            met[one_read(&job, places, &mut kind).refused as usize] += 1;
+        }
+    }
+    assert!([0, 3, 4, 17, 18, 19].iter().all(|&q| met[q] > n / 100), "each answer is met: {met:?}");
+    kind
+}
+
+/// Writes the jobs of random walks to lists that are lent full of random bytes, and reads back what was written. Finished and other walks and
+/// refusals of each number are met.
+fn written_jobs(n: u64, words: &Words, places: &Places, r: &mut Random) -> Kind {
+    let mut kind = Kind::new("job write, and read back");
+    let mut met = [0u64; 7];
+    for _ in 0..n {
+        let word = words.any(r);
+        let mut walk = random_walk(word, r);
+        if r.below(16) == 0 {
+            walk.genus += [1 << 8, 1 << 32, 1 << 63][r.below(3) as usize];
+        }
+        let written = random_written(r);
+        let length = if r.below(2) == 0 { r.below(31) } else { [12, 13, 20, 21, 22, 256][r.below(6) as usize] };
+        let lent: Vec<u8> = (0..length).map(|_| r.next() as u8).collect();
+        let mut list = lent.clone();
+        let job = job_of(&walk, written);
+        let plain = if let Some(q) = walk_refused(&walk) {
+            refused(q)
+        } else if lent.len() < job.len() {
+            refused(6)
+        } else {
+            list[..job.len()].copy_from_slice(&job);
+            given(job.len() as u64)
+        };
+        met[plain.refused as usize + (plain.refused == 0 && walk.finished == 1) as usize] += 1;
+        let mut ours = lent.clone();
+        let answer = unsafe { atlas_job_write(walk, written, ours.as_mut_ptr(), ours.len()) };
+        kind.same((answer, &ours), (plain, &list), &|| format!("{walk:?} {written} {length}"));
+        if plain.refused == 0 {
+            let read = one_read(&list[..job.len()], places, &mut kind);
+            assert!((read.refused, read.walk, read.written) == (0, walk, written), "what is kept by {job:?}");
+        }
+    }
+    assert!([0, 1, 3, 4, 6].iter().all(|&q| met[q] > n / 100), "each answer is met: {met:?}");
+    kind
+}
+
+/// Jobs that are read and written.
+fn jobs(words: &Words, r: &mut Random) -> [Kind; 5] {
+    let places = Places::new(words);
+    for (genus, lowest, highest) in every_window(0..=12, 14) {
+        let first = words.window(genus, lowest, highest, 1).first().copied();
+        assert!(places.fresh(genus, lowest, highest) == first, "the first word of genus {genus} from {lowest} to {highest}");
+    }
+    [
+        short_jobs(&places),
+        accepted_jobs(150_000, words, &places, r),
+        changed_jobs(1_500, words, &places, r),
+        random_jobs(300_000, words, &places, r),
+        written_jobs(250_000, words, &places, r),
+    ]
+}
+
 fn main() {
     let seed = std::env::args().nth(1).map_or(20261115, |s| s.parse().expect("a seed is a number"));
     let mut r = Random(seed | 1);
@@ -1693,6 +2065,7 @@ fn main() {
     kinds.push(censuses(&words, &mut r));
     kinds.push(small_openings());
     kinds.push(openings(60_000, &words, &mut r));
+    kinds.extend(jobs(&words, &mut r));
     println!("seed {seed}");
     for kind in &kinds {
         println!("{:>9} calls of {}: {} differences", kind.calls, kind.name, kind.differences);

@@ -213,6 +213,180 @@ static void refused_batches(void) {
   CHECK(batch_refused((atlas_walk){.genus = 33, .word = 0, .lowest = 1, .highest = 33, .finished = 2}, 3));
 }
 
+static bool saved_is(atlas_saved s, uint64_t refused, uint64_t genus, uint64_t word, uint8_t lowest, uint8_t highest, uint8_t finished,
+                     uint64_t written) {
+  return s.refused == refused && walk_is(s.walk, genus, word, lowest, highest, finished) && s.written == written;
+}
+
+/* Is a job refused with this number, and are all values 0? */
+static bool unsaved_is(atlas_saved s, uint64_t refused) { return saved_is(s, refused, 0, 0, 0, 0, 0, 0); }
+
+/* What the job of these bytes keeps. */
+#define READ(...) atlas_job_read((uint8_t[]){__VA_ARGS__}, sizeof((uint8_t[]){__VA_ARGS__}))
+
+/* The bytes of the longest job, and three more. */
+enum { JOB_LENT = ATLAS_MOST_JOB_BYTES + 3 };
+
+/* Has a walk this job, are the places after it as they were lent, is a list of its length enough, and does it read back as the walk and the
+   number written? */
+static bool job_is(atlas_walk w, uint64_t written, const uint8_t *job, size_t length) {
+  uint8_t expected[JOB_LENT], out[JOB_LENT], exact[JOB_LENT];
+  memset(expected, 9, sizeof expected);
+  memset(out, 9, sizeof out);
+  memset(exact, 9, sizeof exact);
+  memcpy(expected, job, length);
+  return number_is(atlas_job_write(w, written, out, sizeof out), 0, length) && memcmp(out, expected, sizeof out) == 0 &&
+         number_is(atlas_job_write(w, written, exact, length), 0, length) && memcmp(exact, expected, sizeof exact) == 0 &&
+         saved_is(atlas_job_read(job, length), 0, w.genus, w.word, w.lowest, w.highest, w.finished, written);
+}
+
+/* The word of genus 32 with the generators 5 and 17, whose eight bytes are all different. */
+static const uint64_t of_5_and_17 = 4760486403166879215;
+
+/* A fresh walk, one with all bytes of its word and of the number written different, finished ones, the walk on the word 0, and a longer
+   list. */
+static void written_jobs(void) {
+  uint8_t longer[256];
+  const atlas_walk empty = atlas_fresh_in(4, 6, 33).walk, ended = {.genus = 4, .lowest = 3, .highest = 4, .finished = 1};
+  CHECK(job_is(atlas_fresh(4).walk, 0, (uint8_t[]){0x9f, 2, 4, 1, 33, 15, 0, 0, 0, 0, 0, 0, 0, 0, 0, 0, 0, 0, 0, 0, 0}, 21));
+  CHECK(job_is(atlas_start_in(of_5_and_17, 5, 255).walk, 0x0102030405060708,
+               (uint8_t[]){0x9f, 2, 32, 5, 255, 0xef, 0xbd, 0xd6, 0x5a, 0x29, 0xa5, 0x10, 0x42, 8, 7, 6, 5, 4, 3, 2, 1}, 21));
+  CHECK(job_is(ended, 5, (uint8_t[]){0xb7, 2, 4, 3, 4, 5, 0, 0, 0, 0, 0, 0, 0}, 13));
+  CHECK(job_is(ended, UINT64_MAX, (uint8_t[]){0xb7, 2, 4, 3, 4, 255, 255, 255, 255, 255, 255, 255, 255}, 13));
+  CHECK(job_is(empty, 0, (uint8_t[]){0xb7, 2, 4, 6, 33, 0, 0, 0, 0, 0, 0, 0, 0}, 13));
+  CHECK(job_is(atlas_fresh(0).walk, 0, (uint8_t[]){0x9f, 2, 0, 1, 33, 0, 0, 0, 0, 0, 0, 0, 0, 0, 0, 0, 0, 0, 0, 0, 0}, 21));
+  CHECK(number_is(atlas_job_write(atlas_fresh(4).walk, 0, longer, sizeof longer), 0, 21));
+}
+
+/* Is the job of the walk refused with this number, and is the list as it was lent? */
+static bool job_refused(atlas_walk w, size_t length, uint64_t refused) {
+  uint8_t out[JOB_LENT];
+  memset(out, 9, sizeof out);
+  bool as_lent = number_is(atlas_job_write(w, 1, out, length), refused, 0);
+  for (size_t i = 0; i < sizeof out; i++) as_lent = as_lent && out[i] == 9;
+  return as_lent;
+}
+
+/* The walks that a batch refuses, with lists that are long enough and with none, and lists one byte too short. */
+static void refused_jobs(void) {
+  for (size_t length = 0; length <= JOB_LENT; length += JOB_LENT) {
+    CHECK(job_refused((atlas_walk){.genus = 33, .word = 15, .lowest = 1, .highest = 33}, length, 3));
+    CHECK(job_refused((atlas_walk){.genus = 33, .word = 0, .lowest = 1, .highest = 33, .finished = 1}, length, 3));
+    CHECK(job_refused((atlas_walk){.genus = 256 + 4, .word = 15, .lowest = 1, .highest = 33}, length, 3));
+    CHECK(job_refused((atlas_walk){.genus = 33, .word = 0, .lowest = 1, .highest = 33, .finished = 2}, length, 3));
+    CHECK(job_refused((atlas_walk){.genus = 5, .word = 15, .lowest = 1, .highest = 33}, length, 4));
+    CHECK(job_refused((atlas_walk){.genus = 3, .word = not_closed, .lowest = 1, .highest = 33}, length, 4));
+    CHECK(job_refused((atlas_walk){.genus = 4, .word = 71, .lowest = 5, .highest = 33}, length, 4));
+    CHECK(job_refused((atlas_walk){.genus = 4, .word = 71, .lowest = 1, .highest = 33, .finished = 1}, length, 4));
+    CHECK(job_refused((atlas_walk){.genus = 4, .word = 0, .lowest = 1, .highest = 33, .finished = 2}, length, 4));
+    CHECK(job_refused((atlas_walk){.genus = 4, .word = 71, .lowest = 1, .highest = 33, .finished = 255}, length, 4));
+  }
+  CHECK(job_refused(atlas_fresh(4).walk, 20, 6));
+  CHECK(job_refused(atlas_fresh(4).walk, 13, 6));
+  CHECK(job_refused(atlas_fresh(4).walk, 0, 6));
+  CHECK(job_refused(atlas_fresh_in(4, 6, 33).walk, 12, 6));
+  CHECK(job_refused(atlas_fresh_in(4, 6, 33).walk, 0, 6));
+}
+
+/* Jobs of version 1, without and with a version byte, and of version 2, with few fields: genus 4 stands where the fresh walk of its window
+   stands, where the job says, or is finished. */
+static void absent_fields(void) {
+  CHECK(saved_is(READ(0x01, 4), 0, 4, 15, 1, 33, 0, 0));
+  CHECK(saved_is(READ(0x03, 4, 3), 0, 4, 15, 3, 33, 0, 0));
+  CHECK(saved_is(READ(0x05, 4, 4), 0, 4, 23, 1, 4, 0, 0));
+  CHECK(saved_is(READ(0x07, 4, 0, 255), 0, 4, 15, 0, 255, 0, 0));
+  CHECK(saved_is(READ(0x07, 4, 6, 33), 0, 4, 0, 6, 33, 1, 0));
+  CHECK(saved_is(READ(0x07, 4, 4, 3), 0, 4, 0, 4, 3, 1, 0));
+  CHECK(saved_is(READ(0x09, 4, 71, 0, 0, 0, 0, 0, 0, 0), 0, 4, 71, 1, 33, 0, 0));
+  CHECK(saved_is(READ(0x0d, 4, 4, 71, 0, 0, 0, 0, 0, 0, 0), 0, 4, 71, 1, 4, 0, 0));
+  CHECK(saved_is(READ(0x21, 4), 0, 4, 0, 1, 33, 1, 0));
+  CHECK(saved_is(READ(0x27, 4, 4, 3), 0, 4, 0, 4, 3, 1, 0));
+  CHECK(saved_is(READ(0x01, 32), 0, 32, 4294967295, 1, 33, 0, 0));
+  CHECK(saved_is(READ(0x09, 0, 0, 0, 0, 0, 0, 0, 0, 0), 0, 0, 0, 1, 33, 0, 0));
+  CHECK(saved_is(READ(0x81, 1, 4), 0, 4, 15, 1, 33, 0, 0));
+  CHECK(saved_is(READ(0x85, 1, 4, 4), 0, 4, 23, 1, 4, 0, 0));
+  CHECK(saved_is(READ(0xa1, 1, 4), 0, 4, 0, 1, 33, 1, 0));
+  CHECK(saved_is(READ(0x81, 2, 4), 0, 4, 15, 1, 33, 0, 0));
+  CHECK(saved_is(READ(0x89, 2, 32, 0xef, 0xbd, 0xd6, 0x5a, 0x29, 0xa5, 0x10, 0x42), 0, 32, of_5_and_17, 1, 33, 0, 0));
+  CHECK(saved_is(READ(0x91, 2, 4, 8, 7, 6, 5, 4, 3, 2, 1), 0, 4, 15, 1, 33, 0, 0x0102030405060708));
+  CHECK(saved_is(READ(0xb3, 2, 4, 3, 255, 255, 255, 255, 255, 255, 255, 255), 0, 4, 0, 3, 33, 1, UINT64_MAX));
+}
+
+/* A version other than 1 and 2, bit 6, and bit 4 in version 1: before a wrong length, an absent genus, and bits 3 and 5 together. */
+static void wrong_versions(void) {
+  CHECK(unsaved_is(READ(0x81, 0, 4), 17));
+  CHECK(unsaved_is(READ(0x81, 3, 4), 17));
+  CHECK(unsaved_is(READ(0x81, 255, 4), 17));
+  CHECK(unsaved_is(READ(0x80, 3), 17));
+  CHECK(unsaved_is(READ(0xa9, 0, 33), 17));
+  CHECK(unsaved_is(READ(0x41, 4), 17));
+  CHECK(unsaved_is(READ(0xc1, 1, 4), 17));
+  CHECK(unsaved_is(READ(0xc1, 2, 4), 17));
+  CHECK(unsaved_is(READ(0x40), 17));
+  CHECK(unsaved_is(READ(0x11, 4, 0, 0, 0, 0, 0, 0, 0, 0), 17));
+  CHECK(unsaved_is(READ(0x91, 1, 4, 0, 0, 0, 0, 0, 0, 0, 0), 17));
+  CHECK(unsaved_is(READ(0x10), 17));
+}
+
+/* Empty jobs and those that end before their version byte, before all; then a byte too few and one too many, or 65,536, before an absent
+   genus and bits 3 and 5 together. */
+static void wrong_lengths(void) {
+  uint8_t job[JOB_LENT] = {0};
+  CHECK(unsaved_is(atlas_job_read(job, 0), 18));
+  CHECK(unsaved_is(atlas_job_read((uint8_t[65536 + 2]){0x01, 4}, 65536 + 2), 18));
+  CHECK(unsaved_is(READ(0x80), 18));
+  CHECK(unsaved_is(READ(0xc0), 18));
+  CHECK(unsaved_is(READ(0xff), 18));
+  CHECK(unsaved_is(READ(0x01), 18));
+  CHECK(unsaved_is(READ(0x81, 2), 18));
+  CHECK(unsaved_is(READ(0x07, 4, 3), 18));
+  CHECK(unsaved_is(READ(0x09, 4, 71, 0, 0, 0, 0, 0, 0), 18));
+  CHECK(unsaved_is(READ(0x01, 4, 0), 18));
+  CHECK(unsaved_is(READ(0x21, 4, 0), 18));
+  CHECK(unsaved_is(READ(0x00, 4), 18));
+  CHECK(unsaved_is(READ(0x02), 18));
+  CHECK(unsaved_is(READ(0x29, 4), 18));
+  CHECK(number_is(atlas_job_write(atlas_fresh(4).walk, 7, job, sizeof job), 0, 21));
+  for (size_t length = 0; length <= JOB_LENT; length++) CHECK(atlas_job_read(job, length).refused == (length == 21 ? 0 : 18));
+}
+
+/* No genus, and bits 3 and 5 together, before a genus above 32 and a wrong word; then these two in this order. */
+static void wrong_fields(void) {
+  CHECK(unsaved_is(READ(0x00), 19));
+  CHECK(unsaved_is(READ(0x20), 19));
+  CHECK(unsaved_is(READ(0x06, 1, 33), 19));
+  CHECK(unsaved_is(READ(0x80, 1), 19));
+  CHECK(unsaved_is(READ(0x90, 2, 0, 0, 0, 0, 0, 0, 0, 0), 19));
+  CHECK(unsaved_is(READ(0x08, 15, 0, 0, 0, 0, 0, 0, 0), 19));
+  CHECK(unsaved_is(READ(0x29, 4, 0, 0, 0, 0, 0, 0, 0, 0), 19));
+  CHECK(unsaved_is(READ(0x29, 33, 13, 0, 0, 0, 0, 0, 0, 0), 19));
+  CHECK(unsaved_is(READ(0x01, 33), 3));
+  CHECK(unsaved_is(READ(0x07, 33, 4, 3), 3));
+  CHECK(unsaved_is(READ(0xa1, 2, 255), 3));
+  CHECK(unsaved_is(READ(0x09, 33, 13, 0, 0, 0, 0, 0, 0, 0), 3));
+  CHECK(unsaved_is(READ(0x09, 3, 13, 0, 0, 0, 0, 0, 0, 0), 4));
+  CHECK(unsaved_is(READ(0x09, 5, 15, 0, 0, 0, 0, 0, 0, 0), 4));
+  CHECK(unsaved_is(READ(0x09, 4, 0, 0, 0, 0, 0, 0, 0, 0), 4));
+  CHECK(unsaved_is(READ(0x0b, 4, 5, 71, 0, 0, 0, 0, 0, 0, 0), 4));
+  CHECK(unsaved_is(READ(0x0d, 4, 3, 71, 0, 0, 0, 0, 0, 0, 0), 4));
+}
+
+/* Genus 8 by batches of 5, with nothing but the job kept between them. */
+static void walk_by_jobs(void) {
+  uint64_t all[67], words[67 + 5];
+  uint8_t job[ATLAS_MOST_JOB_BYTES];
+  CHECK(atlas_batch(atlas_fresh(8).walk, all, 67).finished);
+  size_t length = atlas_job_write(atlas_fresh(8).walk, 0, job, sizeof job).value;
+  atlas_saved saved = atlas_job_read(job, length);
+  for (uint64_t place = 0; place < 67; place += 5) {
+    CHECK(saved.refused == 0 && !saved.walk.finished && saved.written == place);
+    atlas_moved moved = atlas_batch(saved.walk, words + place, 5);
+    length = atlas_job_write(moved.walk, saved.written + moved.count, job, sizeof job).value;
+    saved = atlas_job_read(job, length);
+  }
+  CHECK(saved_is(saved, 0, 8, 0, 1, 33, 1, 67) && memcmp(words, all, sizeof all) == 0);
+}
+
 static void counts(void) {
   CHECK(number_is(atlas_count(0, 32), 0, 15195070));
   CHECK(number_is(atlas_count(91, 5), 0, 1));
@@ -450,6 +624,13 @@ int main(void) {
   batches();
   window_batches();
   refused_batches();
+  written_jobs();
+  refused_jobs();
+  absent_fields();
+  wrong_versions();
+  wrong_lengths();
+  wrong_fields();
+  walk_by_jobs();
   counts();
   descendants();
   generators();

@@ -20,7 +20,9 @@
    the greatest common divisor of the given generators is not 1 (an empty list's is 0); 9 the given generators leave more than 32 gaps;
    11 a given coordinate is 0; 12 the given coordinates add up to more than 32; 13 an inequality of the given coordinates fails; 14 a list
    that changes has a length above 16, a held byte 0, a place past its length that is not 0, or another answer than atlas_word_from gives
-   for its bytes; 15 it holds sixteen bytes; 16 it does not hold the byte. (10 is the listing program's.)
+   for its bytes; 15 it holds sixteen bytes; 16 it does not hold the byte; 17 a job has a version other than 1 and 2, or a bit that its
+   version lacks; 18 a job is empty, or has too few or too many bytes; 19 a job has no genus, or both a next word and the finished mark.
+   (10 is the listing program's.)
 
    Link with target/staticlib/libatlas.a, which `rt staticlib atlas` writes. */
 #ifndef ATLAS_H
@@ -93,6 +95,13 @@ typedef struct {
   bool finished;
 } atlas_moved;
 
+/* What a job keeps: a walk, and the number of words written so far. */
+typedef struct {
+  uint64_t refused;
+  atlas_walk walk;
+  uint64_t written;
+} atlas_saved;
+
 /* A list of generators that changes holds at most so many. */
 #define ATLAS_MOST_HELD 16
 
@@ -146,6 +155,22 @@ atlas_begun atlas_start_in(uint64_t word, uint8_t lowest, uint8_t highest);
 /* Writes the next words to the front of `out`, as far as its length or the semigroups last; places after them are untouched. Go on with
    the walk that comes back. Refusals 3, 4. */
 atlas_moved atlas_batch(atlas_walk walk, uint64_t *out, size_t length);
+
+/* A job keeps a walk and the number of words written so far between sessions, as bytes. The first byte is a bit map, and just the fields
+   whose bit stands follow: the version, a byte, where bit 7 stands, and then by rising bit 0 the genus, 1 the lowest and 2 the highest
+   multiplicity, a byte each, 3 the next word and 4 the number written so far, 8 bytes each, lowest byte first. Bit 5 marks a finished walk
+   and has no bytes. Without a version byte the version is 1; bit 4 exists from version 2 on, and bit 6 never. The longest job has so many
+   bytes. */
+#define ATLAS_MOST_JOB_BYTES 21
+
+/* Writes the job of a walk, of version 2 and with every field that it has, to the front of `out` and gives its length, 13 for a finished
+   walk and 21 for any other; places after it are untouched. Refusals 3, 4, 6. */
+atlas_number atlas_job_write(atlas_walk walk, uint64_t written, uint8_t *out, size_t length);
+
+/* The walk and the number written that a job keeps. Absent fields mean lowest 1, highest 33, written 0 and, where the finished mark is absent
+   too, the place of the fresh walk in the window, which is already finished where there is none. Refusals 17, 18, 19, 3, 4, but an empty job
+   and one that ends before its version byte are refused 18 before all. */
+atlas_saved atlas_job_read(const uint8_t *job, size_t length);
 
 /* The number of semigroups of a genus whose smallest gaps are exactly the word's; of word 0, the number of all. Refusals 1, 2, 3. */
 atlas_number atlas_count(uint64_t word, uint64_t genus);
