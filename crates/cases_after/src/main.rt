@@ -1,12 +1,14 @@
 // Runs further cases of the papers on what comes after the walk: generators both ways, joined lists of them, elementary counts, Kunz
-// coordinates both ways, censuses, a list of generators that changes, the requests of the listing program and the listing of genus 0. What it
+// coordinates both ways, censuses, a list of generators that changes, saved jobs both ways, the requests of the listing program and the listing of genus 0. What it
 // prints is held to the stored file, which was computed apart from the plain definitions.
 use editor::ChangeAnswer;
 use editor::Changed;
 use editor::Editor;
+use jobs::JobAnswer;
 use libc::STDOUT_FILENO;
 use listing::ListingAnswer;
 use listing::PageAnswer;
+use walk::Walk;
 use words::NumberAnswer;
 use words::Refusal;
 
@@ -164,6 +166,43 @@ fn show_remove(state: Editor, byte: u8) -> Editor {
 // Adds four bytes, and shows what there is after each.
 fn show_four(state: Editor, a: u8, b: u8, c: u8, d: u8) -> Editor {
     show_add(show_add(show_add(show_add(state, a), b), c), d)
+}
+
+// The fields of a walk.
+fn walk_fields(walk: Walk) {
+    field(walk.genus);
+    field(walk.word);
+    field(wide(walk.lowest));
+    field(wide(walk.highest));
+    field(walk.finished as u64);
+}
+
+// The job of a walk and a number written, in a list of 21 places.
+fn show_job(walk: Walk, written: u64) {
+    text(b"job of");
+    walk_fields(walk);
+    text(b" with");
+    field(written);
+    let mut list = [7u8; 21];
+    let a = jobs::write(walk, written, &mut list);
+    listed(a, &list);
+}
+
+// The walk and the number written that a job keeps.
+fn show_read(job: &[u8]) {
+    text(b"read");
+    bytes(job);
+    text(b":");
+    let a = jobs::read(job);
+    match a {
+        JobAnswer::Refused(r) => refusal(r),
+        JobAnswer::Given(saved) => {
+            walk_fields(saved.walk);
+            text(b" with");
+            field(saved.written);
+        }
+    }
+    text(b"\n");
 }
 
 fn show_request(input: &[u8]) {
@@ -341,6 +380,70 @@ fn wrong_states() {
     );
 }
 
+// An unfinished walk of the window from 3 to 40.
+fn walk_on(genus: u64, word: u64) -> Walk {
+    Walk {
+        genus,
+        word,
+        lowest: 3,
+        highest: 40,
+        finished: false,
+    }
+}
+
+// A walk of genus 4 in the window from 3 to 4 that is told finished.
+fn walk_done(word: u64) -> Walk {
+    Walk {
+        genus: 4,
+        word,
+        lowest: 3,
+        highest: 4,
+        finished: true,
+    }
+}
+
+// Walks that are written, and then those that are refused.
+fn jobs_out() {
+    show_job(walk_on(4, 15), 0);
+    show_job(walk_on(15, 32767), 72623859790382856);
+    show_job(walk_done(0), 18446744073709551615);
+    show_job(walk_on(33, 15), 0);
+    show_job(walk_on(5, 15), 0);
+    show_job(walk_on(4, 85), 0);
+    show_job(walk_done(15), 0);
+}
+
+// Version 1 without its byte and with it, and version 2.
+fn jobs_back() {
+    show_read(&[1, 4]);
+    show_read(&[7, 4, 3, 4]);
+    show_read(&[7, 4, 6, 33]);
+    show_read(&[33, 4]);
+    show_read(&[9, 4, 71, 0, 0, 0, 0, 0, 0, 0]);
+    show_read(&[129, 1, 4]);
+    show_read(&[145, 2, 4, 8, 7, 6, 5, 4, 3, 2, 1]);
+    show_read(&[183, 2, 4, 3, 4, 0, 1, 0, 0, 0, 0, 0, 0]);
+}
+
+// By the order of the questions.
+fn refused_jobs() {
+    show_read(b"");
+    show_read(&[192]);
+    show_read(&[129, 0]);
+    show_read(&[129, 3, 4]);
+    show_read(&[65, 4]);
+    show_read(&[17, 4]);
+    show_read(&[1]);
+    show_read(&[2]);
+    show_read(&[1, 4, 0]);
+    show_read(&[0]);
+    show_read(&[41, 33, 15, 0, 0, 0, 0, 0, 0, 0]);
+    show_read(&[1, 33]);
+    show_read(&[9, 33, 13, 0, 0, 0, 0, 0, 0, 0]);
+    show_read(&[9, 3, 13, 0, 0, 0, 0, 0, 0, 0]);
+    show_read(&[11, 4, 5, 71, 0, 0, 0, 0, 0, 0, 0]);
+}
+
 fn censuses() {
     show_census(0, 2210);
     show_census(1, 2210);
@@ -385,6 +488,9 @@ fn main() {
     short_history();
     long_history();
     wrong_states();
+    jobs_out();
+    jobs_back();
+    refused_jobs();
     requests();
     malformed_requests();
     show_listing(0);

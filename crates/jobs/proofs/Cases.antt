@@ -22,14 +22,15 @@ unfolding jobOf laidBefore joined run fieldSize fieldWidth bit bytesOf mapFor of
 known-jobs = (refl, refl)
 
 -- refused jobs: an empty one; a bit map that promises a version byte; version 3 with too few bytes;
--- bit 4 in version 1 and bit 6 in version 2; a byte too few and one too many; no genus; a next word of a finished walk; genus 33
+-- bit 4 in version 1 and bit 6 in version 2; a byte too few and one too many; both a byte too few and no
+-- genus; no genus; a next word of a finished walk; genus 33
 pub known-refusals :
     (readOf 2 [] ≡ refused 18) × (readOf 2 (0x80 ∷ []) ≡ refused 18) × (readOf 2 (0x80 ∷ 3 ∷ []) ≡ refused 17) × (readOf 2 (0x10 ∷ []) ≡ refused 17)
-    × (readOf 2 (0xc1 ∷ 2 ∷ 4 ∷ []) ≡ refused 17) × (readOf 2 (0x01 ∷ []) ≡ refused 18) × (readOf 2 (0x01 ∷ 4 ∷ 0 ∷ []) ≡ refused 18)
+    × (readOf 2 (0xc1 ∷ 2 ∷ 4 ∷ []) ≡ refused 17) × (readOf 2 (0x01 ∷ []) ≡ refused 18) × (readOf 2 (0x01 ∷ 4 ∷ 0 ∷ []) ≡ refused 18) × (readOf 2 (0x02 ∷ []) ≡ refused 18)
     × (readOf 2 (0x02 ∷ 1 ∷ []) ≡ refused 19) × (readOf 2 (0x29 ∷ 1 ∷ 1 ∷ 0 ∷ 0 ∷ 0 ∷ 0 ∷ 0 ∷ 0 ∷ 0 ∷ []) ≡ refused 19)
     × (readOf 2 (0x21 ∷ 33 ∷ []) ≡ refused 3)
 unfolding readOf hasVersion versionIn knows hasBits versionHas memberOf every run fieldPlace sumOver fieldSize fieldWidth bit saidBy complete savedOf walkSaid placedBy standing none fieldIn valueOf valueOr
-known-refusals = (refl, refl, refl, refl, refl, refl, refl, refl, refl, refl)
+known-refusals = (refl, refl, refl, refl, refl, refl, refl, refl, refl, refl, refl)
 
 -- a finished job of version 1 without its version byte and with it: the window is from 1 to 33, and no words are written
 pub known-version-1 :

@@ -3,6 +3,7 @@ use Prim.Native.Nat.{ℕ, _≤_, _<_}
 use mathlib.Core.Path.{_≡_, refl, ap, _∙_}
 use mathlib.Core.Bool.{true, false}
 use mathlib.Core.List.{List, []}
+use native.Mathlib.Omega.{arith}
 use lib.ListN.{length}
 use lib.Dec.{leb}
 use borrow.Author.Tests.{leb-true, le-leb, lt-leb}
@@ -16,9 +17,10 @@ use Rattle.walk.specs.Walks.{standing, inOrder, freshInOf}
 use Rattle.walk.proofs.Walks.{standing-in-order}
 use Rattle.jobs.specs.declared.Saved.{Saved}
 use Rattle.walk.specs.declared.Walk.{Walk}
-use Rattle.jobs.specs.Format.{jobLength}
+use Rattle.jobs.specs.Bytes.{Bytes}
+use Rattle.jobs.specs.Format.{jobLength, mapIn, fieldIn}
 use Rattle.jobs.specs.Jobs.{valueOr, placedBy, walkSaid, savedOf, mapFor, fieldFor, jobOf, putOf, writeOf}
-use Rattle.jobs.proofs.Format.{laid-length}
+use Rattle.jobs.proofs.Format.{byte-field, laid-length}
 
 -- ---- what the fields say
 
@@ -26,6 +28,10 @@ use Rattle.jobs.proofs.Format.{laid-length}
 pub value-or-lt : (absent m : ℕ) (value : ℕ → ℕ) (i k : ℕ) → absent < k → value i < k → valueOr absent m value i < k
 unfolding valueOr
 value-or-lt absent m value i k low h = by-value (bit m i) (λ e. rw e h) (λ e. rw e low)
+
+-- the multiplicities of a list of bytes are bytes
+pub said-byte : (job : List ℕ) → Bytes job → (i : ℕ) → i ≤ 2 → {absent x : ℕ} → x ≡ valueOr absent (mapIn job) (fieldIn job) i → absent < 256 → x < 256
+said-byte job bytes i low {absent} e small = omega (arith, e, value-or-lt absent (mapIn job) (fieldIn job) i 256 small (byte-field job bytes i low))
 
 -- a walk that a call began, with a number written
 abbrev pub withWritten : ℕ → Answer Walk → Answer Saved
