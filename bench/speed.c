@@ -130,6 +130,15 @@ static uint64_t coordinates_back(uint64_t word) {
   return count;
 }
 
+/* The job of a walk of genus 24 on a word, and the walk again. */
+static uint64_t job_back(uint64_t word) {
+  const atlas_walk walk = {.genus = 24, .word = word, .lowest = 1, .highest = 33};
+  uint8_t job[ATLAS_MOST_JOB_BYTES];
+  uint64_t length = atlas_job_write(walk, word, job, sizeof job).value;
+  if (atlas_job_read(job, length).walk.word != word) exit(1);
+  return length;
+}
+
 static uint64_t tabled(uint64_t word) { return atlas_seed_table(word).table; }
 static uint64_t grandchildren(uint64_t word) { return atlas_grandchildren(word).value; }
 
@@ -316,6 +325,7 @@ int main(void) {
   }
   call_row("coordinates", 24, coordinates, walk);
   call_row("coordinates and back", 24, coordinates_back, walk);
+  call_row("a job and back", 24, job_back, walk);
   call_row("seed table", 24, tabled, walk);
   uint64_t by_rows = call_row("grandchildren", 24, grandchildren, walk);
   uint64_t by_count = call_row("count two genera on", 24, counted_on, walk);

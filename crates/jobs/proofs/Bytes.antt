@@ -13,6 +13,12 @@ use Rattle.jobs.specs.Bytes.{Bytes, bytesOf, valueOf}
 
 -- ---- a number and its bytes
 
+-- the bytes of a known number, lowest byte first
+pub known-bytes : (bytesOf 2 0x0102 ≡ 2 ∷ 1 ∷ []) × (valueOf (2 ∷ 1 ∷ []) ≡ 0x0102)
+unfolding bytesOf valueOf
+known-bytes = (refl, refl)
+
+-- a number has as many bytes as are asked for
 pub bytes-length : (n v : ℕ) → length (bytesOf n v) ≡ n
 unfolding bytesOf
 bytes-length zero v = refl
@@ -68,6 +74,7 @@ module _ (place size : ℕ) (l : List ℕ) (within : place + size ≤ length l) 
   abbrev Part : List ℕ
   Part = take size (drop place l)
 
+  -- as many as are asked for
   pub part-length : length Part ≡ size
   part-length = length-take size (drop place l) ∙ omega (arith, length-drop place l)
 

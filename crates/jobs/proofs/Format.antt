@@ -7,7 +7,7 @@ use mathlib.Core.Bool.{true, false, cond, not, _||_, and-eq-true-iff}
 use mathlib.Core.List.{List, [], _∷_, _++_, append-assoc, append-nil}
 use native.Mathlib.Omega.{arith}
 use native.Mathlib.Decide.{ℕ-discrete}
-use native.Mathlib.Nat.{add-zero, add-suc, le-of-eq, le-trans, le-dest, mod-eq-of-lt}
+use native.Mathlib.Nat.{le-of-eq, le-trans, le-dest, mod-eq-of-lt}
 use lib.Dec.{leb}
 use borrow.Author.Tests.{leb-true, le-leb, ne-eqb}
 use lib.ListN.{length, getD, take, drop, length-take, List·getD-eq-default}
@@ -15,9 +15,9 @@ use lib.Seq.{take-all, take-add, take-at, drop-at}
 use Rattle.words.specs.Lists.{run, every, memberOf, joined, sumOver}
 use Rattle.words.specs.Words.{bit}
 use Rattle.words.proofs.Booleans.{by-value}
-use Rattle.words.proofs.Lists.{run-last, joined-append, sum-append, length-joined, sum-same}
+use Rattle.words.proofs.Lists.{run-below, run-last, rises, joined-append, sum-append, length-joined, sum-same}
 use Rattle.jobs.specs.Bytes.{Bytes, bytesOf, valueOf}
-use Rattle.jobs.specs.Format.{fieldWidth, versionHas, bitsBefore, fieldSize, fieldPlace, jobLength, laidBefore, laid, mapIn, fieldIn, hasVersion, versionIn}
+use Rattle.jobs.specs.Format.{fieldWidths, fieldWidth, versionHas, bitsBefore, fieldSize, fieldPlace, jobLength, laidBefore, laid, mapIn, fieldIn, hasVersion, versionIn}
 use Rattle.jobs.specs.SavedJobs.{fieldsIn}
 use Rattle.jobs.proofs.Bytes.{bytes-length, bytes-value, value-bytes, bytes-part, part-length, value-lt, fewer-bytes}
 
@@ -37,7 +37,7 @@ unfolding fieldWidth versionHas memberOf every
 no-bits v i low a b c d = (
   elim (ℕ-discrete i 6) [
     | yes e ↦ rw e refl
-    | no e ↦ sym (List·getD-eq-default (1 ∷ 1 ∷ 1 ∷ 8 ∷ 8 ∷ 0 ∷ 0 ∷ 1 ∷ []) 0 {n = i} (omega arith))
+    | no e ↦ sym (List·getD-eq-default fieldWidths 0 {n = i} (omega arith))
   ],
   rw (ne-eqb 0 i (λ e. omega arith), ne-eqb 1 i (λ e. omega arith), ne-eqb 2 i (λ e. omega arith), ne-eqb 3 i (λ e. a (sym e)), ne-eqb 5 i (λ e. c (sym e)), ne-eqb 7 i (λ e. d (sym e)), ne-eqb i 4 b)
       refl,
@@ -46,7 +46,7 @@ no-bits v i low a b c d = (
 -- a field has at most 8 bytes
 pub width-le : (i : ℕ) → fieldWidth i ≤ 8
 unfolding fieldWidth every
-width-le i = entry-le (1 ∷ 1 ∷ 1 ∷ 8 ∷ 8 ∷ 0 ∷ 0 ∷ 1 ∷ []) 8 refl i
+width-le i = entry-le fieldWidths 8 refl i
   where
     entry-le : (l : List ℕ) (n : ℕ) → every (λ x. leb x n) l ≡ true → (i : ℕ) → getD l i 0 ≤ n
     entry-le [] n e i = omega arith
@@ -63,6 +63,7 @@ pub size-le-width : (m i : ℕ) → fieldSize m i ≤ fieldWidth i
 unfolding fieldSize
 size-le-width m i = by-value (bit m i) (λ e. rw e (omega arith)) (λ e. rw e (omega arith))
 
+-- at most 8
 pub size-le : (m i : ℕ) → fieldSize m i ≤ 8
 size-le m i = le-trans (size-le-width m i) (width-le i)
 
@@ -75,12 +76,8 @@ module _ (m : ℕ) where
   place-next i = rw (run-last i) (omega (arith, sum-append (fieldSize m) (run 0 i) (i ∷ [])))
 
   -- a later field begins no earlier
-  place-after : (i k : ℕ) → fieldPlace m i ≤ fieldPlace m (i + k)
-  place-after i zero = le-of-eq (ap (fieldPlace m) (sym (add-zero i)))
-  place-after i (suc k) = omega (arith, place-after i k, place-next (i + k), ap (fieldPlace m) (add-suc i k))
-
   pub place-within : (i j : ℕ) → i ≤ j → fieldPlace m i ≤ fieldPlace m j
-  place-within i j h = let (k, e) = le-dest h in subst (λ (n : ℕ). fieldPlace m i ≤ fieldPlace m n) e (place-after i k)
+  place-within i j h = rises (fieldPlace m) (λ k. omega (arith, place-next k)) h
 
   -- a field ends before the job does
   pub field-within : (i : ℕ) → i < 7 → fieldPlace m i + fieldSize m i ≤ jobLength m
@@ -137,35 +134,33 @@ module _ (m : ℕ) (value : ℕ → ℕ) where
   unfolding laidBefore
   laid-map = refl
 
-  -- one field more
-  pub laid-next : (i : ℕ) → laidBefore m value (suc i) ≡ laidBefore m value i ++ bytesOf (fieldSize m i) (value i)
+  -- the bytes of a field
+  abbrev field : ℕ → List ℕ
+  field j = bytesOf (fieldSize m j) (value j)
+
+  -- more fields follow those before a bit
+  pub laid-on : (i j : ℕ) → i ≤ j → (l : List ℕ) × (laidBefore m value i ++ l ≡ laidBefore m value j)
+  unfolding laidBefore
+  laid-on i j h =
+      let (k, e) = le-dest h in (
+        joined field (run i k),
+        ap (λ (l : List ℕ). m ∷ l) (sym (joined-append field (bitsBefore i) (run i k))) ∙ ap (λ (l : List ℕ). m ∷ joined field (7 ∷ l)) (sym (run-below i k) ∙ ap (run 0) e),
+      )
+
+  -- the next one
+  pub laid-next : (i : ℕ) → laidBefore m value (suc i) ≡ laidBefore m value i ++ field i
   unfolding laidBefore joined
   laid-next i =
-      let field : ℕ → List ℕ = λ j. bytesOf (fieldSize m j) (value j) in
       ap (λ (l : List ℕ). m ∷ joined field (7 ∷ l)) (run-last i)
       ∙ ap (λ (l : List ℕ). m ∷ l) (joined-append field (bitsBefore i) (i ∷ []) ∙ ap (λ (l : List ℕ). joined field (bitsBefore i) ++ l) (append-nil (field i)))
 
-  -- the fields before that of a bit end where it begins
+  -- those before a bit end where its field begins
   pub laid-length : (i : ℕ) → length (laidBefore m value i) ≡ fieldPlace m i
   unfolding laidBefore fieldPlace
   laid-length i =
-      let sizes : length (joined (λ j. bytesOf (fieldSize m j) (value j)) (bitsBefore i)) ≡ sumOver (fieldSize m) (bitsBefore i) =
-      length-joined (λ j. bytesOf (fieldSize m j) (value j)) (bitsBefore i)
-      ∙ sum-same (λ j. length (bytesOf (fieldSize m j) (value j))) (fieldSize m) (bitsBefore i) (λ j h. bytes-length (fieldSize m j) (value j)) in
+      let sizes : length (joined field (bitsBefore i)) ≡ sumOver (fieldSize m) (bitsBefore i) =
+      length-joined field (bitsBefore i) ∙ sum-same (λ j. length (field j)) (fieldSize m) (bitsBefore i) (λ j h. bytes-length (fieldSize m j) (value j)) in
       omega (arith, sizes)
-
-  -- more fields follow them
-  laid-after : (i k : ℕ) → (l : List ℕ) × (laidBefore m value i ++ l ≡ laidBefore m value (i + k))
-  laid-after i zero = ([], append-nil (laidBefore m value i) ∙ ap (laidBefore m value) (sym (add-zero i)))
-  laid-after i (suc k) =
-      let (l, e) = laid-after i k in
-      let more : List ℕ = bytesOf (fieldSize m (i + k)) (value (i + k)) in (
-        l ++ more,
-        sym (append-assoc (laidBefore m value i) l more) ∙ ap (λ (f : List ℕ). f ++ more) e ∙ sym (laid-next (i + k)) ∙ ap (laidBefore m value) (sym (add-suc i k)),
-      )
-
-  pub laid-on : (i j : ℕ) → i ≤ j → (l : List ℕ) × (laidBefore m value i ++ l ≡ laidBefore m value j)
-  laid-on i j h = let (k, e) = le-dest h in subst (λ (n : ℕ). (l : List ℕ) × (laidBefore m value i ++ l ≡ laidBefore m value n)) e (laid-after i k)
 
   -- the field of a bit is read from a job as it was laid out
   pub laid-field : (i : ℕ) → i < 7 → value i < 256 ^ fieldSize m i → fieldIn (laid m value) i ≡ value i
@@ -173,14 +168,11 @@ module _ (m : ℕ) (value : ℕ → ℕ) where
   laid-field i below fits =
       let (l, whole) = laid-on (suc i) 7 below in
       let front : List ℕ = laidBefore m value i in
-      let bytes : List ℕ = bytesOf (fieldSize m i) (value i) in
-      let parts : laid m value ≡ front ++ (bytes ++ l) =
-      sym whole ∙ ap (λ (f : List ℕ). f ++ l) (laid-next i) ∙ append-assoc front bytes l in
-      let first : mapIn (laid m value) ≡ m = laid-map in
-      rw first
+      let parts : laid m value ≡ front ++ (field i ++ l) = sym whole ∙ ap (λ (f : List ℕ). f ++ l) (laid-next i) ∙ append-assoc front (field i) l in
+      rw laid-map
       (ap (λ (j : List ℕ). valueOf (take (fieldSize m i) (drop (fieldPlace m i) j))) parts
-      ∙ ap (λ (j : List ℕ). valueOf (take (fieldSize m i) j)) (drop-at front (bytes ++ l) (fieldPlace m i) (laid-length i))
-      ∙ ap valueOf (take-at bytes l (fieldSize m i) (bytes-length (fieldSize m i) (value i)))
+      ∙ ap (λ (j : List ℕ). valueOf (take (fieldSize m i) j)) (drop-at front (field i ++ l) (fieldPlace m i) (laid-length i))
+      ∙ ap valueOf (take-at (field i) l (fieldSize m i) (bytes-length (fieldSize m i) (value i)))
       ∙ bytes-value (fieldSize m i) (value i) fits)
 
   -- it is as long as its version byte

@@ -39,7 +39,7 @@ withWritten n (refused k) = refused k
 withWritten n (given w) = given record { walk = w; written = n }
 
 -- where the fresh walk stands, it is in order: it is refused only 3
-fresh-saved : (g lo hi n : ℕ) → withWritten n (freshInOf g lo hi) ≡ savedOf (standing g lo hi (windowList g lo hi)) n
+pub fresh-saved : (g lo hi n : ℕ) → withWritten n (freshInOf g lo hi) ≡ savedOf (standing g lo hi (windowList g lo hi)) n
 unfolding freshInOf savedOf standing
 fresh-saved g lo hi n =
     by-value (leb g 32) (λ e. rw (e, standing-in-order g lo hi [] (leb-true g 32 e) (windowList g lo hi) refl))
@@ -67,6 +67,7 @@ module _ (m : ℕ) (value : ℕ → ℕ) (g lo hi : ℕ) (genus-said : g ≡ val
 
 -- ---- writing
 
+-- the length of a job
 pub job-length : (w : Walk) (n : ℕ) → length (jobOf w n) ≡ jobLength (mapFor (w .finished))
 unfolding jobOf
 job-length w n = laid-length (mapFor (w .finished)) (fieldFor w n) 7

@@ -5,10 +5,11 @@ use mathlib.Core.Logic.{_⊎_}
 use mathlib.Core.Bool.{Bool, true, false, cond, not, _&&_, _||_, and-eq-true-iff}
 use mathlib.Core.List.{List, [], _∷_, List·Memᴰ, List·Memᴰ·head}
 use native.Mathlib.Omega.{arith}
+use native.Mathlib.Nat.{one-le-pow, mod-eq-of-lt}
 use lib.Dec.{eqb, leb}
 use lib.ListN.{length, getD, take, drop}
 use borrow.Author.Tests.{leb-true, eqb-true, le-leb, eq-eqb}
-use Rattle.words.specs.Lists.{run, every, memberOf, sumOver, none}
+use Rattle.words.specs.Lists.{run, every, memberOf, joined, sumOver, none}
 use Rattle.words.specs.Words.{bit, digit, ofBits}
 use Rattle.words.specs.Answers.{refused, given, ask}
 use Rattle.words.proofs.Bits.{bit-ofBits}
@@ -18,23 +19,25 @@ use Rattle.words.proofs.Answers.{ask-given, two-given, tests-given, tests-refus
 use Rattle.windows.specs.Windows.{windowList}
 use Rattle.windows.proofs.Windows.{window-mem}
 use Rattle.walk.specs.declared.Walk.{Walk}
-use Rattle.walk.specs.Walks.{standing, inOrder}
-use Rattle.jobs.specs.Bytes.{Bytes}
+use Rattle.walk.specs.Walks.{standing, inOrder, freshOf}
+use Rattle.jobs.specs.Bytes.{Bytes, bytesOf}
 use Rattle.jobs.specs.Format.{fieldWidth, versionHas, fieldSize, fieldPlace, laidBefore, laid, jobLength, mapIn, fieldIn, hasVersion, versionIn, hasBits}
-use Rattle.jobs.specs.Jobs.{valueOr, complete, placedBy, walkSaid, savedOf, saidBy, knows, readOf, mapFor, fieldFor, jobOf, putOf, writeOf}
+use Rattle.jobs.specs.Jobs.{valueOr, complete, placedBy, walkSaid, savedOf, savedBy, saidBy, knows, readOf, mapFor, fieldFor, jobOf, putOf, writeOf}
 use Rattle.jobs.specs.SavedJobs.{FitsTypes, Savable, SavedJobs}
 use Rattle.jobs.specs.declared.Saved.{Saved}
 use Rattle.jobs.proofs.Format.{size-standing, laid-map, laid-field, laid-length, laid-has-version, laid-version, job-laid, field-lt}
-use Rattle.jobs.proofs.Jobs.{value-or-lt, job-length, put-fits}
+use Rattle.jobs.proofs.Jobs.{value-or-lt, withWritten, fresh-saved, job-length, put-fits}
 
 -- ---- fields that are read
 
 -- fields that agree where their bits stand say the same
 module _ (m : ℕ) (value other : ℕ → ℕ) (agree : (i : ℕ) → i < 7 → bit m i ≡ true → value i ≡ other i) where
+  -- a field or what its absence means
   same-or : (absent i : ℕ) → i < 7 → valueOr absent m value i ≡ valueOr absent m other i
   unfolding valueOr
   same-or absent i h = by-value (bit m i) (λ e. rw e (agree i h e)) (λ e. rw e)
 
+  -- the walk
   same-walk : bit m 0 ≡ true → walkSaid m value ≡ walkSaid m other
   unfolding walkSaid placedBy
   same-walk g =
@@ -42,8 +45,9 @@ module _ (m : ℕ) (value other : ℕ → ℕ) (agree : (i : ℕ) → i < 7 → 
       λ x i. placedBy m x (agree 0 (omega arith) g i) (same-or 1 1 (omega arith) i) (same-or 33 2 (omega arith) i) in
       window (value 3) ∙ by-value (bit m 3) (λ e. ap (λ (x : ℕ). placedBy m x (other 0) (valueOr 1 m other 1) (valueOr 33 m other 2)) (agree 3 (omega arith) e)) (λ e. rw e)
 
+  -- all of it
   same-said : saidBy m value ≡ saidBy m other
-  unfolding saidBy complete
+  unfolding saidBy savedBy complete
   same-said = by-value (bit m 0) (λ e. rw e (ap (ask (not (bit m 3 && bit m 5)) (refused 19)) (ap₂ savedOf (same-walk e) (same-or 0 4 (omega arith))))) (λ e. rw e)
 
 -- a bit map with fields that fit their bytes is read as they say
@@ -55,6 +59,29 @@ fields-read r m value fits =
     λ i h e. laid-field m value i h (subst (λ (n : ℕ). value i < 256 ^ n) (sym (size-standing m i e)) (fits i)) in
     rw (laid-has-version m value, laid-version m value (fits 7), laid-map m value, eq-eqb (length (laid m value)) (jobLength m) (laid-length m value 7))
     (ap (ask (knows r (cond (bit m 7) (value 7) 1) m) (refused 17)) (same-said m (fieldIn (laid m value)) value reads))
+
+-- ---- the shortest jobs
+
+-- a genus alone is the fresh walk of the genus
+genus-alone : (r g : ℕ) (w : Walk) → 1 ≤ r → g < 2 ^ 8 → freshOf g ≡ given w → readOf r (1 ∷ g ∷ []) ≡ given record { walk = w; written = 0 }
+unfolding laidBefore joined run fieldSize fieldWidth bytesOf bit knows hasBits versionHas memberOf every valueOr saidBy savedBy complete walkSaid placedBy freshOf
+genus-alone r g w later small e =
+    ap (λ (b : ℕ). readOf r (1 ∷ b ∷ [])) (sym (mod-eq-of-lt small))
+    ∙ fields-read r 1 (λ i. getD (g ∷ []) i 0) fits
+    ∙ rw (le-leb 1 r later) (sym (fresh-saved g 1 33 0) ∙ ap (withWritten 0) e)
+  where
+    fits : (i : ℕ) → getD (g ∷ []) i 0 < 256 ^ fieldWidth i
+    fits zero = small
+    fits (suc i) = one-le-pow (fieldWidth (suc i)) 256 (omega arith)
+
+-- an empty job, and one that ends before its version byte
+empty-refused : (r : ℕ) → readOf r [] ≡ refused 18
+unfolding readOf hasVersion
+empty-refused r = refl
+
+ended-refused : (r m : ℕ) → bit m 7 ≡ true → readOf r (m ∷ []) ≡ refused 18
+unfolding readOf hasVersion
+ended-refused r m e = rw e
 
 -- ---- versions
 
@@ -76,7 +103,7 @@ read-given r job s e =
 -- what fields say
 said-given : (m : ℕ) (value : ℕ → ℕ) (s : Saved) → saidBy m value ≡ given s
     → (walkSaid m value .genus ≤ 32) × (inOrder (walkSaid m value) ≡ true) × (record { walk = walkSaid m value; written = valueOr 0 m value 4 } ≡ s)
-unfolding saidBy savedOf
+unfolding saidBy savedBy savedOf
 said-given m value s e =
     let w : Walk = walkSaid m value in
     let (all, saved) = ask-given 19 (complete m) _ s e in
@@ -144,7 +171,7 @@ fields-fit w n h (suc (suc (suc (suc (suc (suc (suc (suc i)))))))) = omega arith
 -- a version 2 reader knows its bits, and they say the walk and the number
 written-says : (g x lo hi : ℕ) (f : Bool) (n : ℕ) → let w : Walk = record { genus = g; word = x; lowest = lo; highest = hi; finished = f } in Savable w n
     → ask (knows 2 (valueOr 1 (mapFor f) (fieldFor w n) 7) (mapFor f)) (refused 17) (saidBy (mapFor f) (fieldFor w n)) ≡ given record { walk = w; written = n }
-unfolding knows hasBits versionHas memberOf every run mapFor ofBits digit bit valueOr fieldFor saidBy complete savedOf walkSaid placedBy standing none inOrder
+unfolding knows hasBits versionHas memberOf every run mapFor ofBits digit bit valueOr fieldFor saidBy savedBy complete savedOf walkSaid placedBy standing none inOrder
 written-says g x lo hi true n h =
     rw (le-leb g 32 (h .small))
     (ap (λ (y : ℕ). given record { walk = record { genus = g; word = y; lowest = lo; highest = hi; finished = true }; written = n }) (sym (eqb-true x 0 (h .ordered))))
@@ -206,6 +233,7 @@ first-fits g lo hi = of (windowList g lo hi) (λ x h. window-mem g lo hi h .0 .f
 
 -- a walk that fields say fits where they do
 module _ (m : ℕ) (value : ℕ → ℕ) (lowest-fits : value 1 < 2 ^ 8) (highest-fits : value 2 < 2 ^ 8) (word-fits : value 3 < 2 ^ 64) where
+  -- the word and the bounds of the walk
   said-fits : let w : Walk = walkSaid m value in (w .word < 2 ^ 64) × (w .lowest < 2 ^ 8) × (w .highest < 2 ^ 8)
   unfolding walkSaid placedBy standing
   said-fits =
@@ -214,6 +242,7 @@ module _ (m : ℕ) (value : ℕ → ℕ) (lowest-fits : value 1 < 2 ^ 8) (highes
       by-value (bit m 5) (λ e. rw e (omega arith, low, high))
       (λ e. by-value (bit m 3) (λ f. rw (e, f) (word-fits, low, high)) (λ f. rw (e, f) (first-fits (value 0) (valueOr 1 m value 1) (valueOr 33 m value 2), low, high)))
 
+-- a walk that is read is not refused by the writer
 read-savable : (r : ℕ) (job : List ℕ) (s : Saved) → Bytes job → readOf r job ≡ given s → Savable (s .walk) (s .written)
 unfolding fieldWidth
 read-savable r job s bytes e =
@@ -225,6 +254,7 @@ read-savable r job s bytes e =
     subst (λ (t : Saved). Savable (t .walk) (t .written)) same
     record { small = small; ordered = ordered; fits = record { word = word; lowest = lowest; highest = highest; written = written } }
 
+-- it is then 13 or 21 bytes long, and is read as it was
 read-written : (r : ℕ) (job : List ℕ) (s : Saved) (lent : List ℕ) → Bytes job → readOf r job ≡ given s → 21 ≤ length lent
     → (writeOf (s .walk) (s .written) lent .answer ≡ given (cond (s .walk .finished) 13 21)) × (readOf 2 (jobOf (s .walk) (s .written)) ≡ given s)
 unfolding writeOf
@@ -241,10 +271,14 @@ read-written r job s lent bytes e room =
     at-most true = omega arith
     at-most false = omega arith
 
+-- the sentences of the request
 pub saved-jobs : SavedJobs
 saved-jobs = record {
   fields-read = fields-read;
   all-read = job-laid;
+  empty-refused = empty-refused;
+  ended-refused = ended-refused;
+  genus-alone = genus-alone;
   version-1-same = version-1-same;
   version-1-taken = version-1-taken;
   written-version = written-version;

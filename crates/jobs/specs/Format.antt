@@ -12,15 +12,19 @@ use Rattle.jobs.specs.Bytes.{bytesOf, valueOf}
 
 -- ---- bits, fields and versions
 
--- the number of bytes of the field of each bit, 0 to 7: a number of up to 33 has one, a number of 64 bits has 8, the finished mark has none
+-- the number of bytes of the field of each bit, from 0 to 7: the genus and the two multiplicities have one, the next word and the number written
+-- 8, the finished mark none, and the version one
+abbrev pub fieldWidths : List ℕ
+fieldWidths = 1 ∷ 1 ∷ 1 ∷ 8 ∷ 8 ∷ 0 ∷ 0 ∷ 1 ∷ []
+
 unfoldable pub fieldWidth : ℕ → ℕ
-fieldWidth i = getD (1 ∷ 1 ∷ 1 ∷ 8 ∷ 8 ∷ 0 ∷ 0 ∷ 1 ∷ []) i 0
+fieldWidth i = getD fieldWidths i 0
 
 -- version v has bit i: bit 4 exists from version 2 on, and bit 6 never
 unfoldable pub versionHas : ℕ → ℕ → Bool
 versionHas v i = memberOf (0 ∷ 1 ∷ 2 ∷ 3 ∷ 5 ∷ 7 ∷ []) i || (eqb i 4 && leb 2 v)
 
--- the bits whose fields come before that of bit i: 7, and those below i. Those before 7 in this sense are all of them
+-- the bits whose fields come before that of bit i: bit 7, of which the field is the first, and those below i. Up to i = 7 these are all bits
 abbrev pub bitsBefore : ℕ → List ℕ
 bitsBefore i = 7 ∷ run 0 i
 

@@ -45,9 +45,13 @@ walkSaid m value = placedBy m (value 3) (value 0) (valueOr 1 m value 1) (valueOr
 unfoldable pub savedOf : Walk → ℕ → Answer Saved
 savedOf w n = askWalk refused w (given record { walk = w; written = n })
 
--- what the fields say, after question 19: an absent number written is 0
+-- the walk and the number written that the fields say: an absent number is 0
+unfoldable pub savedBy : ℕ → (ℕ → ℕ) → Answer Saved
+savedBy m value = savedOf (walkSaid m value) (valueOr 0 m value 4)
+
+-- what the fields say, after question 19
 unfoldable pub saidBy : ℕ → (ℕ → ℕ) → Answer Saved
-saidBy m value = ask (complete m) (refused 19) (savedOf (walkSaid m value) (valueOr 0 m value 4))
+saidBy m value = ask (complete m) (refused 19) (savedBy m value)
 
 -- ---- reading
 

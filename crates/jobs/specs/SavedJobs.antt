@@ -10,7 +10,7 @@ use lib.ListN.{length, getD, take, drop}
 use Rattle.words.specs.Words.{bit}
 use Rattle.words.specs.Answers.{refused, given, ask}
 use Rattle.walk.specs.declared.Walk.{Walk}
-use Rattle.walk.specs.Walks.{inOrder}
+use Rattle.walk.specs.Walks.{inOrder, freshOf}
 use Rattle.jobs.specs.Bytes.{Bytes}
 use Rattle.jobs.specs.Format.{fieldWidth, laid, jobLength, mapIn, fieldIn, hasVersion, versionIn}
 use Rattle.jobs.specs.Jobs.{valueOr, saidBy, knows, readOf, jobOf, writeOf}
@@ -39,9 +39,14 @@ pub record SavedJobs : Type 0 where
       → readOf r (laid m value) ≡ ask (knows r (valueOr 1 m value 7) m) (refused 17) (saidBy m value)
   -- and every list of bytes with the length that its bit map says is laid out of the fields that are read from it: no byte is left over
   pub all-read : (job : List ℕ) → Bytes job → hasVersion job ≡ true → length job ≡ jobLength (mapIn job) → laid (mapIn job) (fieldsIn job) ≡ job
+  -- an empty job, and one that ends before its version byte, is refused 18 before all
+  pub empty-refused : (r : ℕ) → readOf r [] ≡ refused 18
+  pub ended-refused : (r m : ℕ) → bit m 7 ≡ true → readOf r (m ∷ []) ≡ refused 18
+  -- a job with a genus and no other field is the fresh walk of the whole genus, with no words written
+  pub genus-alone : (r g : ℕ) (w : Walk) → 1 ≤ r → g < 2 ^ 8 → freshOf g ≡ given w → readOf r (1 ∷ g ∷ []) ≡ given record { walk = w; written = 0 }
   -- a later reader takes every version 1 job as version 1's own does, and refuses it so
   pub version-1-same : (r : ℕ) → 1 ≤ r → (job : List ℕ) → versionIn job ≡ 1 → readOf r job ≡ readOf 1 job
-  -- what version 1's own reader takes are version 1 jobs, which have no number written
+  -- what version 1's own takes is taken so by that of version 2, and no words are written
   pub version-1-taken : (job : List ℕ) (s : Saved) → readOf 1 job ≡ given s → (readOf 2 job ≡ given s) × (s .written ≡ 0)
   -- what is written has version 2, and just the bits 0, 1, 2, 4, 7 and either 5, for a finished walk, or 3
   pub written-version : (w : Walk) (n : ℕ) → versionIn (jobOf w n) ≡ 2

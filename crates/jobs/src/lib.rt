@@ -9,7 +9,7 @@ ghost use Rattle.words.specs.Words.{bit};
 ghost use Rattle.words.specs.Answers.{listed};
 ghost use Rattle.jobs.specs.Bytes.{bytesOf, valueOf};
 ghost use Rattle.jobs.specs.Format.{fieldWidth, versionHas, fieldSize, fieldPlace, jobLength, laid, mapIn, fieldIn, hasVersion, versionIn, hasBits};
-ghost use Rattle.jobs.specs.Jobs.{readAs, valueOr, complete, walkSaid, savedOf, readOf, mapFor, jobOf, putOf, writeOf};
+ghost use Rattle.jobs.specs.Jobs.{readAs, valueOr, complete, savedOf, savedBy, readOf, mapFor, jobOf, putOf, writeOf};
 use walk::Walk;
 use walk::WalkAnswer;
 use words::NumberAnswer;
@@ -33,7 +33,7 @@ struct BitForm {
     had: bool,
 }
 
-// What a version says of a bit.
+// What a version says of a bit: reader and writer go by this match. The width is the same in every version.
 fn form_of(bit: usize, version: u8) -> BitForm
     ensures { λ r. ⌜ (r .width ≡ fieldWidth bit) × (r .had ≡ versionHas version bit) ⌝ }
 {
@@ -211,7 +211,7 @@ fn answer_for(walk: Walk, written: u64) -> JobAnswer
 // The walk and the number written of a job with complete fields.
 fn read_fields(job: &[u8]) -> JobAnswer
     requires { ⌜ length (now job) ≡ jobLength (mapIn (now job)) ⌝ }
-    ensures { λ r. ⌜ readAs r ≡ savedOf (walkSaid (mapIn (now (job .entry))) (fieldIn (now (job .entry)))) (valueOr 0 (mapIn (now (job .entry))) (fieldIn (now (job .entry))) 4) ⌝ }
+    ensures { λ r. ⌜ readAs r ≡ savedBy (mapIn (now (job .entry))) (fieldIn (now (job .entry))) ⌝ }
 {
     let map = job[0];
     let genus = field_in(job, 0);
@@ -330,6 +330,6 @@ pub fn write(walk: Walk, written: u64, out: &mut [u8]) -> NumberAnswer
     let answer = answer_for(walk, written);
     match answer {
         JobAnswer::Refused(r) => NumberAnswer::Refused(r),
-        JobAnswer::Given(kept) => put_job(walk, written, out),
+        JobAnswer::Given(_) => put_job(walk, written, out),
     }
 }

@@ -19,6 +19,7 @@ use Rattle.jobs.proofs.put_value.Tie as tie
 abbrev Front : ℕ → ℕ → List ℕ → ℕ → List ℕ
 Front value at out i = take at out ++ bytesOf i value
 
+-- its length
 front-length : (value at : ℕ) (out : List ℕ) (i : ℕ) → at ≤ length out → length (Front value at out i) ≡ at + i
 front-length value at out i h = length-append (take at out) (bytesOf i value) ∙ omega (arith, length-take-le at out h, bytes-length i value)
 

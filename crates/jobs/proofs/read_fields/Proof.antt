@@ -9,7 +9,7 @@ use Rattle.walk.specs.declared.Walk.{Walk}
 use Rattle.walk.specs.declared.WalkAnswer.{WalkAnswer}
 use Rattle.walk.specs.Answers.{begun}
 use Rattle.jobs.specs.Format.{mapIn, fieldIn}
-use Rattle.jobs.specs.Jobs.{walkSaid, savedOf}
+use Rattle.jobs.specs.Jobs.{walkSaid, savedOf, savedBy}
 use Rattle.jobs.proofs.Format.{place-pos}
 use Rattle.jobs.proofs.Jobs.{said-byte, withWritten, said-finished, said-on-word, said-fresh}
 use Rattle.jobs.proofs.read_fields.Statement.{statement}
@@ -49,6 +49,7 @@ answer-for-requires : tie.Need-answer-for-requires
 answer-for-requires c κs = search needs
 
 returns : tie.Need-returns
+unfolding savedBy
 returns c =
     let at-mark = c .before .before in
     let at-fields = at-mark .before in
@@ -69,6 +70,7 @@ answer-for-requires-2 : tie.Need-answer-for-requires-2
 answer-for-requires-2 c κs = search needs
 
 returns-2 : tie.Need-returns-2
+unfolding savedBy
 returns-2 c =
     let at-word = c .before .before .before in
     let at-mark = at-word .before .before in
@@ -103,6 +105,7 @@ fresh c =
     _ (sym (at-mark .stands .ensures) ∙ at-word .before .if1 .left) (sym (at-word .stands2 .ensures) ∙ c .before .if2 .left)
 
 returns-3 : tie.Need-returns-3
+unfolding savedBy
 returns-3 c =
     let at-fields = c .before .before .before .before .before .before .before .before in
     sym (ap (λ (a : WalkAnswer). withWritten (at-fields .field-or3 .result) (begun a)) (c .before .answer .given .1))
@@ -110,6 +113,7 @@ returns-3 c =
     ∙ ap (savedOf _) (at-fields .field-or3 .ensures)
 
 returns-4 : tie.Need-returns-4
+unfolding savedBy
 returns-4 c =
     let at-fields = c .before .before .before .before .before .before .before .before in
     sym (ap (λ (a : WalkAnswer). withWritten (at-fields .field-or3 .result) (begun a)) (c .before .answer2 .given .1))

@@ -12,8 +12,8 @@ answer-for-requires c κs = search needs
 enum-known-answer : tie.Need-enum-known-answer
 enum-known-answer c = search needs
 
-enum-known-answer-2 : tie.Need-enum-known-answer-2
-enum-known-answer-2 c = search needs
+enum-told : tie.Need-enum-told
+enum-told c = search needs
 
 put-job-requires : tie.Need-put-job-requires
 put-job-requires c κs = search needs
@@ -26,8 +26,8 @@ same-length c = search needs
 
 returns-2 : tie.Need-returns-2
 returns-2 c =
-    let at-answer = c .before .before .before .before .before in
-    c .before .before .put-job .ensures ∙ sym (write-given _ _ _ _ (sym (at-answer .before .before .answer-for .ensures) ∙ ap readAs (at-answer .answer2 .given .1)))
+    let told = c .before .before .before .before in
+    c .before .before .put-job .ensures ∙ sym (write-given _ _ _ _ (sym (told .before .before .answer-for .ensures) ∙ ap readAs (told .enum-told .given .1)))
 
 pub write-spec : {M : Type 1} → statement M
 write-spec =
@@ -35,7 +35,7 @@ write-spec =
     (tie.spec
     answer-for-requires
     enum-known-answer
-    enum-known-answer-2
+    enum-told
     put-job-requires
     returns
     same-length
