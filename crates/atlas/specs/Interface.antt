@@ -73,7 +73,7 @@ walkIn w = record { genus = w .genus; word = w .word; lowest = w .lowest; highes
 abbrev pub walkFrom : AtlasWalk → Walk
 walkFrom w = record { genus = w .genus; word = w .word; lowest = w .lowest; highest = w .highest; finished = eqb (w .finished) 1 }
 
--- and where there is none
+-- what they get where there is no walk
 abbrev pub noWalk : AtlasWalk
 noWalk = record { genus = 0; word = 0; lowest = 0; highest = 0; finished = 0 }
 
