@@ -7,8 +7,8 @@ use Rattle.words.specs.Words.{bit, digit, ofBits}
 use Rattle.words.specs.Answers.{refused, given}
 use Rattle.walk.specs.Walks.{standing, inOrder}
 use Rattle.jobs.specs.Bytes.{bytesOf, valueOf}
-use Rattle.jobs.specs.Format.{fieldWidth, versionHas, fieldSize, fieldPlace, laidBefore, fieldIn, hasVersion, versionIn, hasBits}
-use Rattle.jobs.specs.Jobs.{valueOr, complete, placedBy, walkSaid, savedOf, savedBy, saidBy, knows, readOf, mapFor, fieldFor, jobOf}
+use Rattle.jobs.specs.Format.{fieldWidth, versionHas, fieldSize, fieldPlace, valueOr, laidBefore, fieldIn, hasVersion, versionIn, hasBits}
+use Rattle.jobs.specs.Jobs.{complete, placedBy, walkSaid, savedOf, savedBy, saidBy, knows, readOf, mapFor, fieldFor, jobOf}
 
 -- the job of the walk of genus 15 on the word 0x7fff in the window from 3 to 40 with 0x0102030405060708 words written, and of a finished one
 pub known-jobs :

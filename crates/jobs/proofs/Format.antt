@@ -3,10 +3,10 @@
 use Prim.Native.Nat.{ℕ, zero, suc, _+_, _*_, _^_, _≤_, _<_}
 use mathlib.Core.Path.{_≡_, refl, sym, _∙_, ap, ap₂, subst}
 use mathlib.Core.Logic.{_≢_}
-use mathlib.Core.Bool.{true, false, cond, not, _||_, and-eq-true-iff}
+use mathlib.Core.Bool.{true, false, not, _||_, and-eq-true-iff}
 use mathlib.Core.List.{List, [], _∷_, _++_, append-assoc, append-nil}
 use native.Mathlib.Omega.{arith}
-use native.Mathlib.Decide.{ℕ-discrete}
+use native.Mathlib.Decide.{ℕ-discrete, decLt}
 use native.Mathlib.Nat.{le-of-eq, le-trans, le-dest, mod-eq-of-lt}
 use lib.Dec.{leb}
 use borrow.Author.Tests.{leb-true, le-leb, ne-eqb}
@@ -15,9 +15,9 @@ use lib.Seq.{take-all, take-add, take-at, drop-at}
 use Rattle.words.specs.Lists.{run, every, memberOf, joined, sumOver}
 use Rattle.words.specs.Words.{bit}
 use Rattle.words.proofs.Booleans.{by-value}
-use Rattle.words.proofs.Lists.{run-below, run-last, rises, joined-append, sum-append, length-joined, sum-same}
+use Rattle.words.proofs.Lists.{every-entry, run-below, run-last, rises, joined-append, sum-append, length-joined, sum-same}
 use Rattle.jobs.specs.Bytes.{Bytes, bytesOf, valueOf}
-use Rattle.jobs.specs.Format.{fieldWidths, fieldWidth, versionHas, bitsBefore, fieldSize, fieldPlace, jobLength, laidBefore, laid, mapIn, fieldIn, hasVersion, versionIn}
+use Rattle.jobs.specs.Format.{fieldWidths, fieldWidth, versionHas, bitsBefore, fieldSize, fieldPlace, jobLength, valueOr, fieldBytes, laidBefore, laid, mapIn, fieldIn, hasVersion, versionIn}
 use Rattle.jobs.specs.SavedJobs.{fieldsIn}
 use Rattle.jobs.proofs.Bytes.{bytes-length, bytes-value, value-bytes, bytes-part, part-length, value-lt, fewer-bytes}
 
@@ -46,12 +46,10 @@ no-bits v i low a b c d = (
 -- a field has at most 8 bytes
 pub width-le : (i : ℕ) → fieldWidth i ≤ 8
 unfolding fieldWidth every
-width-le i = entry-le fieldWidths 8 refl i
-  where
-    entry-le : (l : List ℕ) (n : ℕ) → every (λ x. leb x n) l ≡ true → (i : ℕ) → getD l i 0 ≤ n
-    entry-le [] n e i = omega arith
-    entry-le (x ∷ l) n e zero = leb-true x n (and-eq-true-iff (leb x n) (every (λ y. leb y n) l) .0 e .0)
-    entry-le (x ∷ l) n e (suc i) = entry-le l n (and-eq-true-iff (leb x n) (every (λ y. leb y n) l) .0 e .1) i
+width-le i = elim (decLt i 8) [
+  | yes below ↦ leb-true (getD fieldWidths i 0) 8 (every-entry (λ n. leb n 8) fieldWidths 0 refl i below)
+  | no above ↦ le-trans (le-of-eq (List·getD-eq-default fieldWidths 0 {n = i} (omega arith))) (omega arith)
+]
 
 -- where its bit stands, just these
 pub size-standing : (m i : ℕ) → bit m i ≡ true → fieldSize m i ≡ fieldWidth i
@@ -84,9 +82,9 @@ module _ (m : ℕ) where
   field-within i h = omega (arith, place-next i, place-within (suc i) 7 h)
 
   -- the first of them after the bit map and the version byte
-  pub first-place : fieldPlace m 0 ≡ 1 + fieldSize m 7
+  pub place-0 : fieldPlace m 0 ≡ 1 + fieldSize m 7
   unfolding fieldPlace sumOver run
-  first-place = omega arith
+  place-0 = omega arith
 
   -- all after the bit map
   pub place-pos : (i : ℕ) → 0 < fieldPlace m i
@@ -134,32 +132,28 @@ module _ (m : ℕ) (value : ℕ → ℕ) where
   unfolding laidBefore
   laid-map = refl
 
-  -- the bytes of a field
-  abbrev field : ℕ → List ℕ
-  field j = bytesOf (fieldSize m j) (value j)
-
   -- more fields follow those before a bit
   pub laid-on : (i j : ℕ) → i ≤ j → (l : List ℕ) × (laidBefore m value i ++ l ≡ laidBefore m value j)
   unfolding laidBefore
   laid-on i j h =
       let (k, e) = le-dest h in (
-        joined field (run i k),
-        ap (λ (l : List ℕ). m ∷ l) (sym (joined-append field (bitsBefore i) (run i k))) ∙ ap (λ (l : List ℕ). m ∷ joined field (7 ∷ l)) (sym (run-below i k) ∙ ap (run 0) e),
+        joined (fieldBytes m value) (run i k),
+        ap (λ (l : List ℕ). m ∷ l) (sym (joined-append (fieldBytes m value) (bitsBefore i) (run i k))) ∙ ap (λ (l : List ℕ). m ∷ joined (fieldBytes m value) (7 ∷ l)) (sym (run-below i k) ∙ ap (run 0) e),
       )
 
   -- the next one
-  pub laid-next : (i : ℕ) → laidBefore m value (suc i) ≡ laidBefore m value i ++ field i
+  pub laid-next : (i : ℕ) → laidBefore m value (suc i) ≡ laidBefore m value i ++ fieldBytes m value i
   unfolding laidBefore joined
   laid-next i =
-      ap (λ (l : List ℕ). m ∷ joined field (7 ∷ l)) (run-last i)
-      ∙ ap (λ (l : List ℕ). m ∷ l) (joined-append field (bitsBefore i) (i ∷ []) ∙ ap (λ (l : List ℕ). joined field (bitsBefore i) ++ l) (append-nil (field i)))
+      ap (λ (l : List ℕ). m ∷ joined (fieldBytes m value) (7 ∷ l)) (run-last i)
+      ∙ ap (λ (l : List ℕ). m ∷ l) (joined-append (fieldBytes m value) (bitsBefore i) (i ∷ []) ∙ ap (λ (l : List ℕ). joined (fieldBytes m value) (bitsBefore i) ++ l) (append-nil (fieldBytes m value i)))
 
   -- those before a bit end where its field begins
   pub laid-length : (i : ℕ) → length (laidBefore m value i) ≡ fieldPlace m i
   unfolding laidBefore fieldPlace
   laid-length i =
-      let sizes : length (joined field (bitsBefore i)) ≡ sumOver (fieldSize m) (bitsBefore i) =
-      length-joined field (bitsBefore i) ∙ sum-same (λ j. length (field j)) (fieldSize m) (bitsBefore i) (λ j h. bytes-length (fieldSize m j) (value j)) in
+      let sizes : length (joined (fieldBytes m value) (bitsBefore i)) ≡ sumOver (fieldSize m) (bitsBefore i) =
+      length-joined (fieldBytes m value) (bitsBefore i) ∙ sum-same (λ j. length (fieldBytes m value j)) (fieldSize m) (bitsBefore i) (λ j h. bytes-length (fieldSize m j) (value j)) in
       omega (arith, sizes)
 
   -- the field of a bit is read from a job as it was laid out
@@ -168,11 +162,11 @@ module _ (m : ℕ) (value : ℕ → ℕ) where
   laid-field i below fits =
       let (l, whole) = laid-on (suc i) 7 below in
       let front : List ℕ = laidBefore m value i in
-      let parts : laid m value ≡ front ++ (field i ++ l) = sym whole ∙ ap (λ (f : List ℕ). f ++ l) (laid-next i) ∙ append-assoc front (field i) l in
+      let parts : laid m value ≡ front ++ (fieldBytes m value i ++ l) = sym whole ∙ ap (λ (f : List ℕ). f ++ l) (laid-next i) ∙ append-assoc front (fieldBytes m value i) l in
       rw laid-map
       (ap (λ (j : List ℕ). valueOf (take (fieldSize m i) (drop (fieldPlace m i) j))) parts
-      ∙ ap (λ (j : List ℕ). valueOf (take (fieldSize m i) j)) (drop-at front (field i ++ l) (fieldPlace m i) (laid-length i))
-      ∙ ap valueOf (take-at (field i) l (fieldSize m i) (bytes-length (fieldSize m i) (value i)))
+      ∙ ap (λ (j : List ℕ). valueOf (take (fieldSize m i) j)) (drop-at front (fieldBytes m value i ++ l) (fieldPlace m i) (laid-length i))
+      ∙ ap valueOf (take-at (fieldBytes m value i) l (fieldSize m i) (bytes-length (fieldSize m i) (value i)))
       ∙ bytes-value (fieldSize m i) (value i) fits)
 
   -- it is as long as its version byte
@@ -182,11 +176,11 @@ module _ (m : ℕ) (value : ℕ → ℕ) where
       let long = laid-length 7 in
       let room = place-within m 0 7 (omega arith) in
       rw (le-leb 1 (length (laid m value)) (omega (arith, long, place-pos m 7)))
-      (by-value (bit m 7) (λ e. rw (e, le-leb 2 (length (laid m value)) (omega (arith, long, room, first-place m, size-standing m 7 e)))) (λ e. rw e))
+      (by-value (bit m 7) (λ e. rw (e, le-leb 2 (length (laid m value)) (omega (arith, long, room, place-0 m, size-standing m 7 e)))) (λ e. rw e))
 
   -- its version
-  pub laid-version : value 7 < 256 → versionIn (laid m value) ≡ cond (bit m 7) (value 7) 1
-  unfolding versionIn laidBefore joined bytesOf fieldSize fieldWidth
+  pub laid-version : value 7 < 256 → versionIn (laid m value) ≡ valueOr 1 m value 7
+  unfolding versionIn valueOr laidBefore joined bytesOf fieldSize fieldWidth
   laid-version h = by-value (bit m 7) (λ e. rw e (mod-eq-of-lt h)) (λ e. rw e)
 
 -- ---- jobs of any list of bytes
@@ -199,23 +193,24 @@ head-laid (x ∷ []) h v = by-value (bit x 7) (λ e. absurd (omega (arith, has-v
 head-laid (x ∷ y ∷ l) h v = by-value (bit x 7) (λ e. rw e (ap (λ (z : ℕ). x ∷ z ∷ []) (mod-eq-of-lt (h 1)))) (λ e. rw e refl)
 
 module _ (job : List ℕ) (bytes : Bytes job) (versioned : hasVersion job ≡ true) (whole : length job ≡ jobLength (mapIn job)) where
-  abbrev map : ℕ
-  map = mapIn job
+  -- its bit m
+  abbrev m : ℕ
+  m = mapIn job
 
   -- and the fields before that of bit i
-  front-laid : (i : ℕ) → i ≤ 7 → laidBefore map (fieldsIn job) i ≡ take (fieldPlace map i) job
+  front-laid : (i : ℕ) → i ≤ 7 → laidBefore m (fieldsIn job) i ≡ take (fieldPlace m i) job
   unfolding fieldIn
-  front-laid zero h = head-laid job bytes versioned ∙ ap (λ (n : ℕ). take n job) (sym (first-place map))
+  front-laid zero h = head-laid job bytes versioned ∙ ap (λ (n : ℕ). take n job) (sym (place-0 m))
   front-laid (suc i) h =
-      let size : ℕ = fieldSize map i in
-      let part : List ℕ = take size (drop (fieldPlace map i) job) in
-      laid-next map (fieldsIn job) i
+      let size : ℕ = fieldSize m i in
+      let part : List ℕ = take size (drop (fieldPlace m i) job) in
+      laid-next m (fieldsIn job) i
       ∙ ap₂ _++_ (front-laid i (omega arith))
       (rw (ne-eqb i 7 (λ e. omega arith))
-      (ap (λ (n : ℕ). bytesOf n (valueOf part)) (sym (part-length (fieldPlace map i) size job (omega (arith, whole, field-within map i h))))
-      ∙ value-bytes part (bytes-part size (fieldPlace map i) job bytes)))
-      ∙ sym (ap (λ (n : ℕ). take n job) (place-next map i) ∙ take-add (fieldPlace map i) size job)
+      (ap (λ (n : ℕ). bytesOf n (valueOf part)) (sym (part-length (fieldPlace m i) size job (omega (arith, whole, field-within m i h))))
+      ∙ value-bytes part (bytes-part size (fieldPlace m i) job bytes)))
+      ∙ sym (ap (λ (n : ℕ). take n job) (place-next m i) ∙ take-add (fieldPlace m i) size job)
 
   -- so that it is laid out of its fields
-  pub job-laid : laid map (fieldsIn job) ≡ job
-  job-laid = front-laid 7 (omega arith) ∙ take-all (jobLength map) job (le-of-eq whole)
+  pub job-laid : laid m (fieldsIn job) ≡ job
+  job-laid = front-laid 7 (omega arith) ∙ take-all (jobLength m) job (le-of-eq whole)

@@ -6,10 +6,10 @@ use mathlib.Core.List.{List, []}
 use native.Mathlib.Omega.{arith}
 use lib.ListN.{length}
 use lib.Dec.{leb}
-use borrow.Author.Tests.{leb-true, le-leb, lt-leb}
+use borrow.Author.Tests.{leb-true}
 use Rattle.words.specs.Lists.{none}
 use Rattle.words.specs.Words.{bit}
-use Rattle.words.specs.Answers.{Answer, refused, given, unchanged, filled}
+use Rattle.words.specs.Answers.{Answer, refused, given, unchanged, intoLent}
 use Rattle.words.proofs.Booleans.{by-value}
 use Rattle.words.proofs.Answers.{two-refused, two-given}
 use Rattle.windows.specs.Windows.{windowList}
@@ -18,13 +18,13 @@ use Rattle.walk.proofs.Walks.{standing-in-order}
 use Rattle.jobs.specs.declared.Saved.{Saved}
 use Rattle.walk.specs.declared.Walk.{Walk}
 use Rattle.jobs.specs.Bytes.{Bytes}
-use Rattle.jobs.specs.Format.{jobLength, mapIn, fieldIn}
-use Rattle.jobs.specs.Jobs.{valueOr, placedBy, walkSaid, savedOf, mapFor, fieldFor, jobOf, putOf, writeOf}
+use Rattle.jobs.specs.Format.{jobLength, valueOr, mapIn, fieldIn}
+use Rattle.jobs.specs.Jobs.{placedBy, walkSaid, savedOf, mapFor, fieldFor, jobOf, writeOf}
 use Rattle.jobs.proofs.Format.{byte-field, laid-length}
 
 -- ---- what the fields say
 
--- a byte or what an absent one means
+-- a field that is below a bound, or what its absence means
 pub value-or-lt : (absent m : ℕ) (value : ℕ → ℕ) (i k : ℕ) → absent < k → value i < k → valueOr absent m value i < k
 unfolding valueOr
 value-or-lt absent m value i k low h = by-value (bit m i) (λ e. rw e h) (λ e. rw e low)
@@ -72,24 +72,13 @@ pub job-length : (w : Walk) (n : ℕ) → length (jobOf w n) ≡ jobLength (mapF
 unfolding jobOf
 job-length w n = laid-length (mapFor (w .finished)) (fieldFor w n) 7
 
-module _ (job lent : List ℕ) where
-  -- a list that is too short
-  pub put-short : length lent < length job → putOf job lent ≡ unchanged lent 6
-  unfolding putOf
-  put-short h = rw (lt-leb (length job) (length lent) h)
-
-  -- and one that is not
-  pub put-fits : length job ≤ length lent → putOf job lent ≡ filled job lent
-  unfolding putOf
-  put-fits h = rw (le-leb (length job) (length lent) h)
-
 module _ (w : Walk) (n : ℕ) (lent : List ℕ) where
   -- the writer refuses a walk as the reader does
   pub write-refused : (k : ℕ) → savedOf w n ≡ refused k → writeOf w n lent ≡ unchanged lent k
   unfolding savedOf writeOf
-  write-refused k e = two-refused 3 4 record { walk = w; written = n } (unchanged lent) (putOf (jobOf w n) lent) k (leb (w .genus) 32) (inOrder w) e
+  write-refused k e = two-refused 3 4 record { walk = w; written = n } (unchanged lent) (intoLent (jobOf w n) lent) k (leb (w .genus) 32) (inOrder w) e
 
   -- and writes the job of any other
-  pub write-given : (s : Saved) → savedOf w n ≡ given s → writeOf w n lent ≡ putOf (jobOf w n) lent
+  pub write-given : (s : Saved) → savedOf w n ≡ given s → writeOf w n lent ≡ intoLent (jobOf w n) lent
   unfolding savedOf writeOf
   write-given s e = let (small, ordered, same) = two-given 3 4 record { walk = w; written = n } s (leb (w .genus) 32) (inOrder w) e in rw (small, ordered)

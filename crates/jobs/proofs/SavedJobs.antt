@@ -3,7 +3,7 @@ use Prim.Native.Nat.{ℕ, zero, suc, _^_, _≤_, _<_}
 use mathlib.Core.Path.{_≡_, refl, sym, _∙_, ap, ap₂, subst}
 use mathlib.Core.Logic.{_⊎_}
 use mathlib.Core.Bool.{Bool, true, false, cond, not, _&&_, _||_, and-eq-true-iff}
-use mathlib.Core.List.{List, [], _∷_, List·Memᴰ, List·Memᴰ·head}
+use mathlib.Core.List.{List, [], _∷_}
 use native.Mathlib.Omega.{arith}
 use native.Mathlib.Nat.{one-le-pow, mod-eq-of-lt}
 use lib.Dec.{eqb, leb}
@@ -15,18 +15,17 @@ use Rattle.words.specs.Answers.{refused, given, ask}
 use Rattle.words.proofs.Bits.{bit-ofBits}
 use Rattle.words.proofs.Booleans.{by-value, is-false, not-both}
 use Rattle.words.proofs.Lists.{mem-run, every-mem, fronted-front, fronted-rest}
-use Rattle.words.proofs.Answers.{ask-given, two-given, tests-given, tests-refused}
-use Rattle.windows.specs.Windows.{windowList}
-use Rattle.windows.proofs.Windows.{window-mem}
+use Rattle.words.proofs.Answers.{ask-given, two-given, tests-given, tests-refused, lent-enough}
+use Rattle.windows.proofs.Windows.{first-fits}
 use Rattle.walk.specs.declared.Walk.{Walk}
 use Rattle.walk.specs.Walks.{standing, inOrder, freshOf}
 use Rattle.jobs.specs.Bytes.{Bytes, bytesOf}
-use Rattle.jobs.specs.Format.{fieldWidth, versionHas, fieldSize, fieldPlace, laidBefore, laid, jobLength, mapIn, fieldIn, hasVersion, versionIn, hasBits}
-use Rattle.jobs.specs.Jobs.{valueOr, complete, placedBy, walkSaid, savedOf, savedBy, saidBy, knows, readOf, mapFor, fieldFor, jobOf, putOf, writeOf}
+use Rattle.jobs.specs.Format.{fieldWidth, versionHas, fieldSize, fieldPlace, valueOr, laidBefore, laid, jobLength, mapIn, fieldIn, hasVersion, versionIn, hasBits}
+use Rattle.jobs.specs.Jobs.{complete, placedBy, walkSaid, savedOf, savedBy, saidBy, knows, readOf, mapFor, fieldFor, jobOf, writeOf}
 use Rattle.jobs.specs.SavedJobs.{FitsTypes, Savable, SavedJobs}
 use Rattle.jobs.specs.declared.Saved.{Saved}
 use Rattle.jobs.proofs.Format.{size-standing, laid-map, laid-field, laid-length, laid-has-version, laid-version, job-laid, field-lt}
-use Rattle.jobs.proofs.Jobs.{value-or-lt, withWritten, fresh-saved, job-length, put-fits}
+use Rattle.jobs.proofs.Jobs.{value-or-lt, withWritten, fresh-saved, job-length}
 
 -- ---- fields that are read
 
@@ -53,12 +52,12 @@ module _ (m : ℕ) (value other : ℕ → ℕ) (agree : (i : ℕ) → i < 7 → 
 -- a bit map with fields that fit their bytes is read as they say
 fields-read : (r m : ℕ) (value : ℕ → ℕ) → ((i : ℕ) → value i < 256 ^ fieldWidth i)
     → readOf r (laid m value) ≡ ask (knows r (valueOr 1 m value 7) m) (refused 17) (saidBy m value)
-unfolding readOf valueOr fieldWidth
+unfolding readOf fieldWidth
 fields-read r m value fits =
     let reads : (i : ℕ) → i < 7 → bit m i ≡ true → fieldIn (laid m value) i ≡ value i =
     λ i h e. laid-field m value i h (subst (λ (n : ℕ). value i < 256 ^ n) (sym (size-standing m i e)) (fits i)) in
     rw (laid-has-version m value, laid-version m value (fits 7), laid-map m value, eq-eqb (length (laid m value)) (jobLength m) (laid-length m value 7))
-    (ap (ask (knows r (cond (bit m 7) (value 7) 1) m) (refused 17)) (same-said m (fieldIn (laid m value)) value reads))
+    (ap (ask (knows r (valueOr 1 m value 7) m) (refused 17)) (same-said m (fieldIn (laid m value)) value reads))
 
 -- ---- the shortest jobs
 
@@ -139,7 +138,7 @@ written-bits w n i = bit-ofBits (true ∷ true ∷ true ∷ not (w .finished) �
 
 -- its version
 written-version : (w : Walk) (n : ℕ) → versionIn (jobOf w n) ≡ 2
-unfolding jobOf fieldFor mapFor ofBits digit bit
+unfolding jobOf fieldFor valueOr mapFor ofBits digit bit
 written-version w n = laid-version (mapFor (w .finished)) (fieldFor w n) (omega arith) ∙ by-finished (w .finished)
   where
     by-finished : (f : Bool) → _≡_ {A = ℕ} (cond (bit (mapFor f) 7) 2 1) 2
@@ -197,7 +196,7 @@ jobs-differ w v n k h g e =
 -- the job is in front of it, and the places after it are untouched
 written-front : (w : Walk) (n k : ℕ) (lent : List ℕ) → writeOf w n lent .answer ≡ given k
     → (take k (writeOf w n lent .list) ≡ jobOf w n) × (length (jobOf w n) ≡ k) × (drop k (writeOf w n lent .list) ≡ drop k lent)
-unfolding writeOf putOf
+unfolding writeOf
 written-front w n k lent e =
     let job : List ℕ = jobOf w n in
     let (small, ordered, count, list) = tests-given 3 4 6 job lent k (leb (w .genus) 32) (inOrder w) (leb (length job) (length lent)) e in (
@@ -209,7 +208,7 @@ written-front w n k lent e =
 -- it is read from there
 written-read : (w : Walk) (n k : ℕ) (lent : List ℕ) → FitsTypes w n → writeOf w n lent .answer ≡ given k
     → readOf 2 (take k (writeOf w n lent .list)) ≡ given record { walk = w; written = n }
-unfolding writeOf putOf
+unfolding writeOf
 written-read w n k lent fits e =
     let job : List ℕ = jobOf w n in
     let (small, ordered, count, list) = tests-given 3 4 6 job lent k (leb (w .genus) 32) (inOrder w) (leb (length job) (length lent)) e in
@@ -218,18 +217,10 @@ written-read w n k lent fits e =
 -- a refusal writes nothing
 refused-untouched : (w : Walk) (n k : ℕ) (lent : List ℕ) → writeOf w n lent .answer ≡ refused k
     → (writeOf w n lent .list ≡ lent) × ((k ≡ 3) ⊎ ((k ≡ 4) ⊎ (k ≡ 6)))
-unfolding writeOf putOf
+unfolding writeOf
 refused-untouched w n k lent e = tests-refused 3 4 6 (jobOf w n) lent k (leb (w .genus) 32) (inOrder w) (leb (length (jobOf w n)) (length lent)) e
 
 -- ---- what is read can be written again
-
--- the first word of a window, or 0, fits
-first-fits : (g lo hi : ℕ) → getD (windowList g lo hi) 0 0 < 2 ^ 64
-first-fits g lo hi = of (windowList g lo hi) (λ x h. window-mem g lo hi h .0 .fits)
-  where
-    of : (l : List ℕ) → ((x : ℕ) → List·Memᴰ x l → x < 2 ^ 64) → getD l 0 0 < 2 ^ 64
-    of [] h = omega arith
-    of (x ∷ l) h = h x (List·Memᴰ·head refl)
 
 -- a walk that fields say fits where they do
 module _ (m : ℕ) (value : ℕ → ℕ) (lowest-fits : value 1 < 2 ^ 8) (highest-fits : value 2 < 2 ^ 8) (word-fits : value 3 < 2 ^ 64) where
@@ -263,7 +254,7 @@ read-written r job s lent bytes e room =
     let n : ℕ = s .written in
     let h = read-savable r job s bytes e in
     let long = written-length w n in (
-      rw (le-leb (w .genus) 32 (h .small), h .ordered, put-fits (jobOf w n) lent (omega (arith, long, at-most (w .finished)))) (ap given long),
+      rw (le-leb (w .genus) 32 (h .small), h .ordered, lent-enough (jobOf w n) lent (omega (arith, long, at-most (w .finished)))) (ap given long),
       job-read w n h,
     )
   where

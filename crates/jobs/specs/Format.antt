@@ -17,6 +17,7 @@ use Rattle.jobs.specs.Bytes.{bytesOf, valueOf}
 abbrev pub fieldWidths : List ℕ
 fieldWidths = 1 ∷ 1 ∷ 1 ∷ 8 ∷ 8 ∷ 0 ∷ 0 ∷ 1 ∷ []
 
+-- of bit i
 unfoldable pub fieldWidth : ℕ → ℕ
 fieldWidth i = getD fieldWidths i 0
 
@@ -40,13 +41,21 @@ fieldPlace m i = 1 + sumOver (fieldSize m) (bitsBefore i)
 abbrev pub jobLength : ℕ → ℕ
 jobLength m = fieldPlace m 7
 
--- ---- a job with given fields
+-- ---- a bit map m and values of the fields, by the numbers of their bits
 
--- the bit map m and the fields before that of bit i, with these values
+-- the value of the field of bit i, or what an absent field means
+unfoldable pub valueOr : ℕ → ℕ → (ℕ → ℕ) → ℕ → ℕ
+valueOr absent m value i = cond (bit m i) (value i) absent
+
+-- its bytes in a job
+abbrev pub fieldBytes : ℕ → (ℕ → ℕ) → ℕ → List ℕ
+fieldBytes m value i = bytesOf (fieldSize m i) (value i)
+
+-- the bit map and the fields before that of bit i
 unfoldable pub laidBefore : ℕ → (ℕ → ℕ) → ℕ → List ℕ
-laidBefore m value i = m ∷ joined (λ j. bytesOf (fieldSize m j) (value j)) (bitsBefore i)
+laidBefore m value i = m ∷ joined (fieldBytes m value) (bitsBefore i)
 
--- the job with the bit map m and fields with these values
+-- the job with this bit map and these fields
 abbrev pub laid : ℕ → (ℕ → ℕ) → List ℕ
 laid m value = laidBefore m value 7
 

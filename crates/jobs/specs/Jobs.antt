@@ -5,11 +5,11 @@ use mathlib.Core.List.{List, [], _∷_}
 use lib.Dec.{eqb, leb}
 use lib.ListN.{length, getD}
 use Rattle.words.specs.Words.{bit, ofBits}
-use Rattle.words.specs.Answers.{Answer, refused, given, numberOf, ask, ListAnswer, unchanged, filled}
+use Rattle.words.specs.Answers.{Answer, refused, given, numberOf, ask, ListAnswer, unchanged, intoLent}
 use Rattle.windows.specs.Windows.{windowList}
 use Rattle.walk.specs.declared.Walk.{Walk}
 use Rattle.walk.specs.Walks.{standing, askWalk}
-use Rattle.jobs.specs.Format.{laid, jobLength, mapIn, fieldIn, hasVersion, versionIn, hasBits}
+use Rattle.jobs.specs.Format.{jobLength, valueOr, laid, mapIn, fieldIn, hasVersion, versionIn, hasBits}
 use Rattle.jobs.specs.declared.Saved.{Saved}
 use Rattle.jobs.specs.declared.JobAnswer.{JobAnswer}
 use Rattle.jobs.specs.declared.JobAnswer.the-variants as J
@@ -20,10 +20,6 @@ readAs (J.Refused r) = refused (numberOf r)
 readAs (J.Given s) = given s
 
 -- ---- what the fields mean
-
--- the value of the field of bit i, or what an absent field means: m is the bit map
-unfoldable pub valueOr : ℕ → ℕ → (ℕ → ℕ) → ℕ → ℕ
-valueOr absent m value i = cond (bit m i) (value i) absent
 
 -- is there a genus, and not both a next word and the finished mark
 unfoldable pub complete : ℕ → Bool
@@ -82,10 +78,6 @@ fieldFor w n i = getD (w .genus ∷ w .lowest ∷ w .highest ∷ w .word ∷ n �
 unfoldable pub jobOf : Walk → ℕ → List ℕ
 jobOf w n = laid (mapFor (w .finished)) (fieldFor w n)
 
--- a job into a lent list: question 6, does the list hold all of it
-unfoldable pub putOf : List ℕ → List ℕ → ListAnswer
-putOf job lent = ask (leb (length job) (length lent)) (unchanged lent 6) (filled job lent)
-
 -- writing a walk and a number written: questions 3 and 4 about the walk, then 6
 unfoldable pub writeOf : Walk → ℕ → List ℕ → ListAnswer
-writeOf w n lent = askWalk (unchanged lent) w (putOf (jobOf w n) lent)
+writeOf w n lent = askWalk (unchanged lent) w (intoLent (jobOf w n) lent)

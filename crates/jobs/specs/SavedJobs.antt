@@ -12,8 +12,8 @@ use Rattle.words.specs.Answers.{refused, given, ask}
 use Rattle.walk.specs.declared.Walk.{Walk}
 use Rattle.walk.specs.Walks.{inOrder, freshOf}
 use Rattle.jobs.specs.Bytes.{Bytes}
-use Rattle.jobs.specs.Format.{fieldWidth, laid, jobLength, mapIn, fieldIn, hasVersion, versionIn}
-use Rattle.jobs.specs.Jobs.{valueOr, saidBy, knows, readOf, jobOf, writeOf}
+use Rattle.jobs.specs.Format.{fieldWidth, valueOr, laid, jobLength, mapIn, fieldIn, hasVersion, versionIn}
+use Rattle.jobs.specs.Jobs.{saidBy, knows, readOf, jobOf, writeOf}
 use Rattle.jobs.specs.declared.Saved.{Saved}
 
 -- a walk and a number written fit their types: numbers of 64 bits and bytes

@@ -6,10 +6,10 @@ ghost use mathlib.Core.List.{_++_};
 ghost use lib.ListN.{length, getD, take, drop};
 ghost use Rattle.words.specs.Lists.{fronted};
 ghost use Rattle.words.specs.Words.{bit};
-ghost use Rattle.words.specs.Answers.{listed};
+ghost use Rattle.words.specs.Answers.{listed, intoLent};
 ghost use Rattle.jobs.specs.Bytes.{bytesOf, valueOf};
-ghost use Rattle.jobs.specs.Format.{fieldWidth, versionHas, fieldSize, fieldPlace, jobLength, laid, mapIn, fieldIn, hasVersion, versionIn, hasBits};
-ghost use Rattle.jobs.specs.Jobs.{readAs, valueOr, complete, savedOf, savedBy, readOf, mapFor, jobOf, putOf, writeOf};
+ghost use Rattle.jobs.specs.Format.{fieldWidth, versionHas, fieldSize, fieldPlace, jobLength, valueOr, laid, mapIn, fieldIn, hasVersion, versionIn, hasBits};
+ghost use Rattle.jobs.specs.Jobs.{readAs, complete, savedOf, savedBy, readOf, mapFor, jobOf, writeOf};
 use walk::Walk;
 use walk::WalkAnswer;
 use words::NumberAnswer;
@@ -310,7 +310,7 @@ fn lay_out(map: u8, fields: [u64; 8], out: &mut [u8]) -> usize
 
 // Writes the job of a walk, unless the list is too short for it.
 fn put_job(walk: Walk, written: u64, out: &mut [u8]) -> NumberAnswer
-    ensures { λ r. ⌜ listed r (now (out .exit)) ≡ putOf (jobOf walk written) (now (out .entry)) ⌝ }
+    ensures { λ r. ⌜ listed r (now (out .exit)) ≡ intoLent (jobOf walk written) (now (out .entry)) ⌝ }
 {
     let map = map_for(walk.finished);
     if out.len() < field_place(map, 7) {

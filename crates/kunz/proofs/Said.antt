@@ -3,7 +3,7 @@
 use Prim.Native.Nat.{ℕ, zero, suc, _+_, _*_, _-_, _/_, _%_, _^_, _≤_, _<_}
 use mathlib.Core.Path.{_≡_, refl, sym, ap, ap₂, _∙_}
 use mathlib.Core.Logic.{_↔_}
-use mathlib.Core.Bool.{true, false, not, and-eq-true-iff}
+use mathlib.Core.Bool.{true, false, not}
 use mathlib.Core.List.{List, [], _∷_}
 use native.Mathlib.Omega.{arith}
 use native.Mathlib.Nat.{zero-add, add-zero, le-refl, mul-add, mul-suc, mul-zero, mul-one, mul-le-mul-left, div-add-mod, mod-lt}
@@ -15,7 +15,7 @@ use Rattle.words.specs.Lists.{run, every, sumOver}
 use Rattle.words.specs.Sets.{ClosedUnderAddition}
 use Rattle.words.specs.Words.{setOf, closed}
 use Rattle.words.specs.Elements.{multiplicity}
-use Rattle.words.proofs.Lists.{run-mem, mem-run, getD-map-run, every-mem, mem-every, sum-same, sum-places}
+use Rattle.words.proofs.Lists.{run-mem, mem-run, getD-map-run, every-mem, mem-every, every-entry, sum-same, sum-places}
 use Rattle.words.proofs.Counting.{countBelow, count-same}
 use Rattle.words.proofs.Elements.{multiplicity-pos}
 use Rattle.kunz.specs.Coordinates.{CoordinateOf, coordinate, kunzCoordinates, modulus, entryAt, inequality, inequalities, InequalitiesHold, setSaid}
@@ -31,10 +31,7 @@ entry-le-sum (x ∷ l) (suc k) = omega (arith, entry-le-sum l k)
 
 -- where all entries are positive, each is
 entry-pos : (l : List ℕ) (k : ℕ) → every (ltb 0) l ≡ true → k < length l → 0 < getD l k 0
-unfolding every
-entry-pos [] k e h = absurd (omega arith)
-entry-pos (x ∷ l) zero e h = ltb-true 0 x (and-eq-true-iff (ltb 0 x) (every (ltb 0) l) .0 e .0)
-entry-pos (x ∷ l) (suc k) e h = entry-pos l k (and-eq-true-iff (ltb 0 x) (every (ltb 0) l) .0 e .1) (omega arith)
+entry-pos l k e h = ltb-true 0 (getD l k 0) (every-entry (ltb 0) l 0 e k h)
 
 module _ (l : List ℕ) where
   -- its m, its entries and their sum

@@ -1,14 +1,15 @@
 -- What a window holds, that it is one stretch of the genus list, and that the genus list is the windows of its multiplicities, the largest
 -- first. Assumes nothing.
 use Prim.Native.Nat.{ℕ, zero, suc, _+_, _-_, _^_, _≤_, _<_, min}
-use mathlib.Core.Path.{_≡_, sym, _∙_, ap, ap₂, subst}
+use mathlib.Core.Path.{_≡_, refl, sym, _∙_, ap, ap₂, subst}
 use mathlib.Core.Logic.{_⊎_, inl, _↔_, ⊎-elim}
 use mathlib.Core.Bool.{Bool, true, false, _||_, and-eq-true-iff, and-true, or-false}
-use mathlib.Core.List.{List, [], _∷_, _++_, append-assoc, append-nil, map-id, List·Memᴰ, List·Memᴰ·not-nil, List·Memᴰ·cases-cons}
+use mathlib.Core.List.{List, [], _∷_, _++_, append-assoc, append-nil, map-id, List·Memᴰ, List·Memᴰ·head, List·Memᴰ·not-nil, List·Memᴰ·cases-cons}
 use native.Mathlib.Omega.{arith}
 use native.Mathlib.Nat.{le-of-eq}
 use native.Mathlib.Decide.{decLe}
 use lib.Dec.{leb}
+use lib.ListN.{getD}
 use borrow.Author.Tests.{leb-true, leb-false, le-leb, lt-leb}
 use Rattle.words.specs.Lists.{run, keep, joined, onFrom, Ordered}
 use Rattle.words.specs.Sets.{Set}
@@ -69,6 +70,14 @@ module _ (g lo hi : ℕ) where
   pub window-ordered : Ordered Earlier (windowList g lo hi)
   unfolding windowList
   window-ordered = ordered-keep Earlier (inside lo hi) (genusList g) (genus-list-ordered g)
+
+  -- its first word, or 0 where there is none, is one of 64 bits
+  pub first-fits : getD (windowList g lo hi) 0 0 < 2 ^ 64
+  first-fits = of (windowList g lo hi) (λ x m. window-mem m .0 .fits)
+    where
+      of : (l : List ℕ) → ((x : ℕ) → List·Memᴰ x l → x < 2 ^ 64) → getD l 0 0 < 2 ^ 64
+      of [] h = omega arith
+      of (x ∷ l) h = h x (List·Memᴰ·head refl)
 
   -- the window has all semigroups of the genus with a multiplicity in it, as sets of whole numbers, and no other, each once
   pub window-all : g ≤ 32 → AllInWindow g lo hi (windowList g lo hi)

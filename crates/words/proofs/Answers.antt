@@ -12,7 +12,7 @@ use borrow.Author.Tests.{leb-true, le-leb, lt-leb}
 use Rattle.words.specs.Lists.{fronted}
 use Rattle.words.specs.Sets.{Set, ClosedUnderAddition}
 use Rattle.words.specs.Words.{setOf, genus, closed}
-use Rattle.words.specs.Answers.{Answer, Accepted, refused, given, isGiven, numberOf, ask, askWord, reportOf, Tells, lookOf, ListAnswer, unchanged, filled, listedInto, giving}
+use Rattle.words.specs.Answers.{Answer, Accepted, refused, given, isGiven, numberOf, ask, askWord, reportOf, Tells, lookOf, ListAnswer, unchanged, filled, intoLent, listedInto, giving}
 use Rattle.words.specs.declared.Refusal.{Refusal}
 use Rattle.words.specs.declared.Refusal.the-variants.{TooManyGaps, NotClosed, GenusTooLarge, WalkOutOfOrder, NotAGenerator, ListTooShort, ZeroGenerator, CommonDivisor, TooManyGapsGenerated, MalformedInput, ZeroCoordinate, CoordinateSumTooLarge, FailedInequality, EditorOutOfOrder, EditorFull, ByteNotHeld, WrongJobVersion, WrongJobLength, WrongJobFields}
 use Rattle.words.specs.declared.Report.{Report}
@@ -250,6 +250,16 @@ module _ (a b c : ℕ) (l lent : List ℕ) where
   tests-refused n true false r e = (refl, inr (inl cc))
   tests-refused n false q r e = (refl, inl cc)
 
+-- question 6 by itself
+module _ (l lent : List ℕ) where
+  -- a list that is too short
+  pub lent-short : length lent < length l → intoLent l lent ≡ unchanged lent 6
+  lent-short short = rw (lt-leb (length l) (length lent) short)
+
+  -- and one that is not
+  pub lent-enough : length l ≤ length lent → intoLent l lent ≡ filled l lent
+  lent-enough long = rw (le-leb (length l) (length lent) long)
+
 -- numbers of a word
 module _ (w : ℕ) (l lent : List ℕ) where
   -- a number and a list are told just of accepted words: how many numbers there are, and the lent list with all of them in front
@@ -266,14 +276,14 @@ module _ (w : ℕ) (l lent : List ℕ) where
   refusal-unchanged n e = tests-refused 1 2 6 l lent n (leb (genus w) 32) (closed w) (leb (length l) (length lent)) e .0
 
   module _ (h : Accepted w) where
-    list-asked : listedInto w l lent ≡ ask (leb (length l) (length lent)) (unchanged lent 6) (filled l lent)
+    list-asked : listedInto w l lent ≡ intoLent l lent
     unfolding listedInto
     list-asked = asked (unchanged lent) w _ h
 
     -- a list that does not hold the numbers of an accepted word is refused
     pub no-room : length lent < length l → listedInto w l lent ≡ unchanged lent 6
-    no-room short = list-asked ∙ simp (lt-leb (length l) (length lent) short)
+    no-room short = list-asked ∙ lent-short l lent short
 
     -- in one that does they are listed
     pub room : length l ≤ length lent → listedInto w l lent ≡ filled l lent
-    room long = list-asked ∙ simp (le-leb (length l) (length lent) long)
+    room long = list-asked ∙ lent-enough l lent long

@@ -178,6 +178,13 @@ module _ {A : Type 0} where
   every-append p [] l = refl
   every-append p (x ∷ k) l = ap (λ (b : Bool). p x && b) (every-append p k l) ∙ sym (and-assoc (p x) (every p k) (every p l))
 
+  -- where all pass, the one at i does
+  pub every-entry : (p : A → Bool) (l : List A) (d : A) → every p l ≡ true → (i : ℕ) → i < length l → p (getD l i d) ≡ true
+  unfolding every
+  every-entry p [] d pass i h = absurd (omega arith)
+  every-entry p (x ∷ l) d pass zero h = and-eq-true-iff (p x) (every p l) .0 pass .0
+  every-entry p (x ∷ l) d pass (suc i) h = every-entry p l d (and-eq-true-iff (p x) (every p l) .0 pass .1) i (omega arith)
+
   -- where all pass, the first n do
   pub every-take : (p : A → Bool) (l : List A) → every p l ≡ true → (n : ℕ) → every p (take n l) ≡ true
   every-take p l pass n =

@@ -129,6 +129,10 @@ giving n after = record { answer = given n; list = after }
 abbrev pub filled : List ℕ → List ℕ → ListAnswer
 filled l lent = giving (length l) (fronted l lent)
 
--- the numbers l of the word w into the lent list: questions 1 and 2, then 6, does the list hold all of them
+-- the numbers l into the lent list: question 6, does the list hold all of them
+abbrev pub intoLent : List ℕ → List ℕ → ListAnswer
+intoLent l lent = ask (leb (length l) (length lent)) (unchanged lent 6) (filled l lent)
+
+-- the numbers l of the word w: questions 1 and 2, then 6
 unfoldable pub listedInto : ℕ → List ℕ → List ℕ → ListAnswer
-listedInto w l lent = askWord (unchanged lent) w (ask (leb (length l) (length lent)) (unchanged lent 6) (filled l lent))
+listedInto w l lent = askWord (unchanged lent) w (intoLent l lent)

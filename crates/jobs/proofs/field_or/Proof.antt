@@ -2,8 +2,7 @@
 use mathlib.Core.Path.{sym, _∙_}
 use native.Mathlib.Omega.{arith}
 use borrow.Author.Needs.{needs}
-use Rattle.jobs.specs.Format.{mapIn}
-use Rattle.jobs.specs.Jobs.{valueOr}
+use Rattle.jobs.specs.Format.{valueOr, mapIn}
 use Rattle.jobs.proofs.Format.{place-pos}
 use Rattle.jobs.proofs.field_or.Statement.{statement}
 use Rattle.jobs.proofs.field_or.Tie as tie

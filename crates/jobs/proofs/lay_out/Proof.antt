@@ -9,7 +9,7 @@ use Rattle.words.specs.Lists.{run, joined, fronted}
 use Rattle.words.proofs.Lists.{fronted-length, fronted-set, fronted-on, fronted-again, fronted-twice}
 use Rattle.jobs.specs.Bytes.{bytesOf}
 use Rattle.jobs.specs.Format.{fieldSize, fieldPlace, laidBefore}
-use Rattle.jobs.proofs.Format.{place-next, place-within, place-pos, first-place, field-within, laid-next, laid-on, laid-length}
+use Rattle.jobs.proofs.Format.{place-next, place-within, place-pos, place-0, field-within, laid-next, laid-on, laid-length}
 use Rattle.jobs.proofs.lay_out.Statement.{statement}
 use Rattle.jobs.proofs.lay_out.Tie as tie
 
@@ -36,7 +36,7 @@ put-value-requires : tie.Need-put-value-requires Inv-loop μ-loop
 put-value-requires c κs =
     let start = c .before .before .before in
     let map : ℕ = start .args .map in
-    omega (arith, length-set (start .args .out .now) 0 map, start .pre, c .before .field-size .ensures, first-place map, place-within map 0 7 (omega arith))
+    omega (arith, length-set (start .args .out .now) 0 map, start .pre, c .before .field-size .ensures, place-0 map, place-within map 0 7 (omega arith))
 
 -- with the version the fields before that of bit 0 are written
 first-written : (c : tie.After-slice-known2 Inv-loop μ-loop) → let start = c .before .before .before .before .before .before in
@@ -58,7 +58,7 @@ loop-holds c =
     let front : List ℕ = Front (start .args .map) (start .args .t2) 0 in
     let lent : List ℕ = start .args .out .now in (
       omega arith,
-      c .before .before .put-value .ensures .1 ∙ omega (arith, first-place (start .args .map), c .before .before .before .before .field-size .ensures),
+      c .before .before .put-value .ensures .1 ∙ omega (arith, place-0 (start .args .map), c .before .before .before .before .field-size .ensures),
       first-written c ∙ sym (ap (fronted front) (first-written c) ∙ fronted-again front lent),
     )
 

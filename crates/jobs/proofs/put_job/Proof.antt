@@ -6,11 +6,12 @@ use native.Mathlib.Omega.{arith}
 use borrow.Author.Needs.{needs}
 use lib.ListN.{length}
 use Rattle.words.specs.Answers.{giving}
+use Rattle.words.proofs.Answers.{lent-short, lent-enough}
 use Rattle.words.specs.Lists.{fronted}
 use Rattle.walk.specs.declared.Walk.{Walk}
 use Rattle.jobs.specs.Format.{jobLength, laid}
 use Rattle.jobs.specs.Jobs.{fieldFor, jobOf}
-use Rattle.jobs.proofs.Jobs.{job-length, put-short, put-fits}
+use Rattle.jobs.proofs.Jobs.{job-length}
 use Rattle.jobs.proofs.put_job.Statement.{statement}
 use Rattle.jobs.proofs.put_job.Tie as tie
 
@@ -28,7 +29,9 @@ long c =
     c .field-place .ensures ∙ ap jobLength (c .before .map-for .ensures) ∙ sym (job-length (start .args .walk) (start .args .written))
 
 returns : tie.Need-returns
-returns c = sym (put-short _ _ (omega (arith, long (c .before))))
+returns c =
+    let start = c .before .before .before .before in
+    sym (lent-short (jobOf (start .args .walk) (start .args .written)) (start .args .out .now) (omega (arith, long (c .before))))
 
 cast-lowest : tie.Need-cast-lowest
 cast-lowest c = search needs
@@ -53,7 +56,7 @@ returns-2 c =
     let map = at-place .before .map-for .ensures in
     let (list, length) = c .before .before .lay-out .ensures in
     ap₂ giving (length ∙ ap jobLength map ∙ sym (job-length w n)) (list ∙ ap (λ (m : ℕ). fronted (laid m (fieldFor w n)) lent) map)
-    ∙ sym (put-fits (jobOf w n) lent (omega (arith, long at-place)))
+    ∙ sym (lent-enough (jobOf w n) lent (omega (arith, long at-place)))
 
 pub put-job-spec : {M : Type 1} → statement M
 put-job-spec =

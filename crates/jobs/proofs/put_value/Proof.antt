@@ -42,12 +42,15 @@ cast-out c = omega arith
 add-out : tie.Need-add-out Inv-loop μ-loop
 add-out c = omega arith
 
+-- the list stays as long as it was
+long : (c : tie.At-loop Inv-loop μ-loop) → length (c .loop .out) ≡ length (c .before .args .out .now)
+long c =
+    let args = c .before .args in
+    let front = front-length (args .value) (args .at) (args .out .now) (c .loop .i) (omega arith) in
+    ap length (c .loop .inv .2) ∙ fronted-length (Front (args .value) (args .at) (args .out .now) (c .loop .i)) (args .out .now) (omega arith)
+
 slice-write-out : tie.Need-slice-write-out Inv-loop μ-loop
-slice-write-out c =
-    let args = c .before .before .args in
-    let now = c .before .loop in
-    let front = front-length (args .value) (args .at) (args .out .now) (now .i) (omega arith) in
-    omega (arith, ap length (now .inv .2) ∙ fronted-length (Front (args .value) (args .at) (args .out .now) (now .i)) (args .out .now) (omega arith))
+slice-write-out c = omega (arith, long (c .before))
 
 add-i : tie.Need-add-i Inv-loop μ-loop
 add-i c = omega arith
@@ -61,13 +64,13 @@ loop-again c =
     let now = c .before .loop in
     let out = args .out .now in
     let front = Front (args .value) (args .at) out (now .i) in
-    let long = front-length (args .value) (args .at) out (now .i) (omega arith) in
+    let end = front-length (args .value) (args .at) out (now .i) (omega arith) in
     let (low, left, list) = now .inv in
     let further : 8 * now .i + 8 ≡ 8 * (now .i + 1) = omega arith in (
       omega arith,
       ap (λ (x : ℕ). x / 256) left ∙ shr-shr (args .value) (8 * now .i) 8 ∙ ap (λ (k : ℕ). args .value / 2 ^ k) further,
       ap (λ (o : List ℕ). set o (args .at + now .i) (now .left % 256)) list
-          ∙ ap (λ (k : ℕ). set (fronted front out) k (now .left % 256)) (sym long)
+          ∙ ap (λ (k : ℕ). set (fronted front out) k (now .left % 256)) (sym end)
           ∙ fronted-set front out (now .left % 256) (omega arith)
           ∙ ap (λ (l : List ℕ). fronted l out) (append-assoc (take (args .at) out) (bytesOf (now .i) (args .value)) ((now .left % 256) ∷ [])
           ∙ ap (λ (l : List ℕ). take (args .at) out ++ l) (ap (λ (x : ℕ). bytesOf (now .i) (args .value) ++ (x % 256) ∷ []) left
@@ -78,11 +81,7 @@ add-result : tie.Need-add-result Inv-loop μ-loop
 add-result c = omega arith
 
 same-length : tie.Need-same-length Inv-loop μ-loop
-same-length c =
-    let args = c .before .before .args in
-    let now = c .before .loop in
-    let front = front-length (args .value) (args .at) (args .out .now) (now .i) (omega arith) in
-    ap length (now .inv .2) ∙ fronted-length (Front (args .value) (args .at) (args .out .now) (now .i)) (args .out .now) (omega arith)
+same-length c = long (c .before)
 
 returns : tie.Need-returns Inv-loop μ-loop
 returns c =
