@@ -4,11 +4,12 @@ use mathlib.Core.Path.{_≡_, _∙_}
 use mathlib.Core.Logic.{_↔_, ⊎-elim}
 use mathlib.Core.List.{List, _++_, List·Memᴰ, Memᴰ·append-left, Memᴰ·append-right, List·Memᴰ·append-cases}
 use native.Mathlib.Omega.{arith}
+use Rattle.words.specs.Lists.{Bytes}
 use Rattle.words.specs.Answers.{given}
 use Rattle.words.proofs.Lists.{append-each, positive-without-zero}
 use Rattle.generators.specs.Sums.{SumsOf, Positive}
 use Rattle.generators.specs.Generators.{minimalGenerators, wordFromOf}
-use Rattle.generators.specs.Joining.{Bytes, Joining}
+use Rattle.generators.specs.Joining.{Joining}
 use Rattle.generators.proofs.Sums.{sums-of-members, sums-of-sums}
 use Rattle.generators.proofs.MinimalGenerators.{generators-mem, generator-lt-128}
 use Rattle.generators.proofs.WordFrom.{answered-word, listed-give-word, made-accepted, made-back}

@@ -1,16 +1,12 @@
 -- Lists of generators that are joined, at once or in stages: what holds of the call for a word from generators (`wordFromOf`) and of the
 -- call for the generators of a word (`generatorsOf`). Assumes nothing: these are definitions.
-use Prim.Native.Nat.{ℕ, _≤_, _<_}
+use Prim.Native.Nat.{ℕ, _≤_}
 use mathlib.Core.Path.{_≡_}
 use mathlib.Core.List.{List, [], _∷_, _++_, List·Memᴰ}
 use lib.ListN.{length, take}
-use Rattle.words.specs.Lists.{joined}
+use Rattle.words.specs.Lists.{joined, Bytes}
 use Rattle.words.specs.Answers.{Answer, refused, given, giving, filled}
 use Rattle.generators.specs.Generators.{minimalGenerators, generatorsOf, wordFromOf}
-
--- all members are bytes, as the calls take them
-abbrev pub Bytes : List ℕ → Type 0
-Bytes A = (a : ℕ) → List·Memᴰ a A → a < 256
 
 -- ---- two lists
 

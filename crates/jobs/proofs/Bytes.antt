@@ -1,15 +1,15 @@
 -- Numbers as bytes: as many as are asked for, and a number that fits is read back from them. Assumes nothing.
 use Prim.Native.Nat.{ℕ, zero, suc, _+_, _*_, _/_, _%_, _^_, _≤_, _<_}
 use mathlib.Core.Path.{_≡_, refl, sym, ap, ap₂, _∙_, subst}
-use mathlib.Core.List.{List, [], _∷_, _++_}
+use mathlib.Core.List.{List, [], _∷_, _++_, List·Memᴰ, List·Memᴰ·head, List·Memᴰ·tail, List·Memᴰ·not-nil, Memᴰ·append-left, Memᴰ·append-right}
 use native.Mathlib.Omega.{arith}
-use native.Mathlib.Decide.{decLt}
 use native.Mathlib.Nat.{pow-suc, pow-le-pow-right, div-one}
 use native.Mathlib.Numerals.{add-one}
 use lib.Pow.{shr-shr}
-use lib.ListN.{length, getD, take, drop, length-take, length-drop, drop-of-length-le, List·getD-eq-default}
+use lib.ListN.{length, getD, take, drop, take-append-drop, length-take, length-drop, drop-of-length-le}
 use lib.Seq.{drop-cons, getD-take, getD-drop}
-use Rattle.jobs.specs.Bytes.{Bytes, bytesOf, valueOf}
+use Rattle.words.specs.Lists.{Bytes}
+use Rattle.jobs.specs.Bytes.{bytesOf, valueOf}
 
 -- ---- a number and its bytes
 
@@ -40,29 +40,32 @@ bytes-more (suc n) v =
 
 -- ---- lists of bytes
 
+-- a list of which each entry is a byte
+pub entries-bytes : (l : List ℕ) → ((i : ℕ) → getD l i 0 < 256) → Bytes l
+entries-bytes [] h x m = absurd (List·Memᴰ·not-nil m)
+entries-bytes (b ∷ l) h x (List·Memᴰ·head e) = omega (arith, e, h 0)
+entries-bytes (b ∷ l) h x (List·Memᴰ·tail m) = entries-bytes l (λ i. h (suc i)) x m
+
 -- a part of a list of bytes is one
 pub bytes-part : (n p : ℕ) (l : List ℕ) → Bytes l → Bytes (take n (drop p l))
-bytes-part n p l h i = elim (decLt i n) [
-  | yes below ↦ subst (λ (x : ℕ). x < 256) (sym (getD-take n (drop p l) i 0 below ∙ getD-drop p l i 0)) (h (p + i))
-  | no above ↦
-      let past : length (take n (drop p l)) ≤ i = omega (arith, length-take n (drop p l)) in
-      subst (λ (x : ℕ). x < 256) (sym (List·getD-eq-default (take n (drop p l)) 0 past)) (omega arith)
-]
+bytes-part n p l h x m =
+    let later : List·Memᴰ x (drop p l) = subst (List·Memᴰ x) (take-append-drop n (drop p l)) (Memᴰ·append-left (drop n (drop p l)) m) in
+    h x (subst (List·Memᴰ x) (take-append-drop p l) (Memᴰ·append-right (take p l) later))
 
 -- n bytes have a number below 256 ^ n
 pub value-lt : (l : List ℕ) → Bytes l → valueOf l < 256 ^ length l
 unfolding valueOf
 value-lt [] h = omega arith
-value-lt (b ∷ l) h = omega (arith, value-lt l (λ i. h (suc i)), h 0, pow-suc 256 (length l))
+value-lt (b ∷ l) h = omega (arith, value-lt l (λ x m. h x (List·Memᴰ·tail m)), h b (List·Memᴰ·head refl), pow-suc 256 (length l))
 
 -- bytes are those of their number
 pub value-bytes : (l : List ℕ) → Bytes l → bytesOf (length l) (valueOf l) ≡ l
 unfolding bytesOf valueOf
 value-bytes [] h = refl
 value-bytes (b ∷ l) h =
-    let low : (b + valueOf l * 256) % 256 ≡ b = omega (arith, h 0) in
-    let high : (b + valueOf l * 256) / 256 ≡ valueOf l = omega (arith, h 0) in
-    ap₂ _∷_ low (ap (bytesOf (length l)) high ∙ value-bytes l (λ i. h (suc i)))
+    let low : (b + valueOf l * 256) % 256 ≡ b = omega (arith, h b (List·Memᴰ·head refl)) in
+    let high : (b + valueOf l * 256) / 256 ≡ valueOf l = omega (arith, h b (List·Memᴰ·head refl)) in
+    ap₂ _∷_ low (ap (bytesOf (length l)) high ∙ value-bytes l (λ x m. h x (List·Memᴰ·tail m)))
 
 -- a number of k bytes is one of n bytes
 pub fewer-bytes : (v n : ℕ) {k : ℕ} → v < 256 ^ k → k ≤ n → v < 256 ^ n

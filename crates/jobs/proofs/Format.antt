@@ -4,19 +4,19 @@ use Prim.Native.Nat.{ℕ, zero, suc, _+_, _*_, _^_, _≤_, _<_}
 use mathlib.Core.Path.{_≡_, refl, sym, _∙_, ap, ap₂, subst}
 use mathlib.Core.Logic.{_≢_}
 use mathlib.Core.Bool.{true, false, not, _||_, and-eq-true-iff}
-use mathlib.Core.List.{List, [], _∷_, _++_, append-assoc, append-nil}
+use mathlib.Core.List.{List, [], _∷_, _++_, append-assoc, append-nil, List·Memᴰ·head, List·Memᴰ·tail}
 use native.Mathlib.Omega.{arith}
 use native.Mathlib.Decide.{ℕ-discrete, decLt}
 use native.Mathlib.Nat.{le-of-eq, le-trans, le-dest, mod-eq-of-lt}
-use lib.Dec.{leb}
-use borrow.Author.Tests.{leb-true, le-leb, ne-eqb}
+use lib.Dec.{ltb, leb}
+use borrow.Author.Tests.{ltb-true, leb-true, le-leb, ne-eqb}
 use lib.ListN.{length, getD, take, drop, length-take, List·getD-eq-default}
-use lib.Seq.{take-all, take-add, take-at, drop-at}
-use Rattle.words.specs.Lists.{run, every, memberOf, joined, sumOver}
+use lib.Seq.{getD-take, take-all, take-add, take-at, drop-at}
+use Rattle.words.specs.Lists.{Bytes, run, every, memberOf, joined, sumOver}
 use Rattle.words.specs.Words.{bit}
 use Rattle.words.proofs.Booleans.{by-value}
 use Rattle.words.proofs.Lists.{every-entry, run-below, run-last, rises, joined-append, sum-append, length-joined, sum-same}
-use Rattle.jobs.specs.Bytes.{Bytes, bytesOf, valueOf}
+use Rattle.jobs.specs.Bytes.{bytesOf, valueOf}
 use Rattle.jobs.specs.Format.{fieldWidths, fieldWidth, versionHas, bitsBefore, fieldSize, fieldPlace, jobLength, valueOr, fieldBytes, laidBefore, laid, mapIn, fieldIn, hasVersion, versionIn}
 use Rattle.jobs.specs.SavedJobs.{fieldsIn}
 use Rattle.jobs.proofs.Bytes.{bytes-length, bytes-value, value-bytes, bytes-part, part-length, value-lt, fewer-bytes}
@@ -51,10 +51,25 @@ width-le i = elim (decLt i 8) [
   | no above ↦ le-trans (le-of-eq (List·getD-eq-default fieldWidths 0 {n = i} (omega arith))) (omega arith)
 ]
 
--- where its bit stands, just these
+-- none where its bit does not stand
+size-absent : (m i : ℕ) → bit m i ≡ false → fieldSize m i ≡ 0
+unfolding fieldSize
+size-absent m i e = rw e
+
+-- where it stands, just these
 pub size-standing : (m i : ℕ) → bit m i ≡ true → fieldSize m i ≡ fieldWidth i
 unfolding fieldSize
 size-standing m i e = rw e
+
+-- those of bits 0 to 4 have one at least
+pub size-pos : (m i : ℕ) → i < 5 → bit m i ≡ true → 0 < fieldSize m i
+unfolding fieldWidth every
+size-pos m i low e =
+    omega (arith, size-standing m i e, getD-take 5 fieldWidths i 0 low, ltb-true 0 (getD (take 5 fieldWidths) i 0) (every-entry (ltb 0) (take 5 fieldWidths) 0 refl i low))
+
+-- a value that fits the bytes of a field fits those that it has in a job
+pub fits-size : (m i v : ℕ) → v < 256 ^ fieldWidth i → 0 < fieldSize m i → v < 256 ^ fieldSize m i
+fits-size m i v fits some = by-value (bit m i) (λ e. subst (λ (n : ℕ). v < 256 ^ n) (sym (size-standing m i e)) fits) (λ e. absurd (omega (arith, size-absent m i e)))
 
 -- no more in any job
 pub size-le-width : (m i : ℕ) → fieldSize m i ≤ fieldWidth i
@@ -179,9 +194,9 @@ module _ (m : ℕ) (value : ℕ → ℕ) where
       (by-value (bit m 7) (λ e. rw (e, le-leb 2 (length (laid m value)) (omega (arith, long, room, place-0 m, size-standing m 7 e)))) (λ e. rw e))
 
   -- its version
-  pub laid-version : value 7 < 256 → versionIn (laid m value) ≡ valueOr 1 m value 7
+  pub laid-version : (bit m 7 ≡ true → value 7 < 256) → versionIn (laid m value) ≡ valueOr 1 m value 7
   unfolding versionIn valueOr laidBefore joined bytesOf fieldSize fieldWidth
-  laid-version h = by-value (bit m 7) (λ e. rw e (mod-eq-of-lt h)) (λ e. rw e)
+  laid-version h = by-value (bit m 7) (λ e. rw e (mod-eq-of-lt (h e))) (λ e. rw e)
 
 -- ---- jobs of any list of bytes
 
@@ -190,7 +205,7 @@ head-laid : (job : List ℕ) → Bytes job → hasVersion job ≡ true → laidB
 unfolding laidBefore joined run fieldSize fieldWidth bytesOf versionIn
 head-laid [] h v = absurd (omega (arith, has-map [] v))
 head-laid (x ∷ []) h v = by-value (bit x 7) (λ e. absurd (omega (arith, has-version-byte (x ∷ []) v e))) (λ e. rw e refl)
-head-laid (x ∷ y ∷ l) h v = by-value (bit x 7) (λ e. rw e (ap (λ (z : ℕ). x ∷ z ∷ []) (mod-eq-of-lt (h 1)))) (λ e. rw e refl)
+head-laid (x ∷ y ∷ l) h v = by-value (bit x 7) (λ e. rw e (ap (λ (z : ℕ). x ∷ z ∷ []) (mod-eq-of-lt (h y (List·Memᴰ·tail (List·Memᴰ·head refl)))))) (λ e. rw e refl)
 
 module _ (job : List ℕ) (bytes : Bytes job) (versioned : hasVersion job ≡ true) (whole : length job ≡ jobLength (mapIn job)) where
   -- its bit m

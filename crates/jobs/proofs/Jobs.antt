@@ -7,7 +7,7 @@ use native.Mathlib.Omega.{arith}
 use lib.ListN.{length}
 use lib.Dec.{leb}
 use borrow.Author.Tests.{leb-true}
-use Rattle.words.specs.Lists.{none}
+use Rattle.words.specs.Lists.{none, Bytes}
 use Rattle.words.specs.Words.{bit}
 use Rattle.words.specs.Answers.{Answer, refused, given, unchanged, intoLent}
 use Rattle.words.proofs.Booleans.{by-value}
@@ -17,7 +17,6 @@ use Rattle.walk.specs.Walks.{standing, inOrder, freshInOf}
 use Rattle.walk.proofs.Walks.{standing-in-order}
 use Rattle.jobs.specs.declared.Saved.{Saved}
 use Rattle.walk.specs.declared.Walk.{Walk}
-use Rattle.jobs.specs.Bytes.{Bytes}
 use Rattle.jobs.specs.Format.{jobLength, valueOr, mapIn, fieldIn}
 use Rattle.jobs.specs.Jobs.{placedBy, walkSaid, savedOf, mapFor, fieldFor, jobOf, writeOf}
 use Rattle.jobs.proofs.Format.{byte-field, laid-length}

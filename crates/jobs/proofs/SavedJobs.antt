@@ -9,7 +9,7 @@ use native.Mathlib.Nat.{one-le-pow, mod-eq-of-lt}
 use lib.Dec.{eqb, leb}
 use lib.ListN.{length, getD, take, drop}
 use borrow.Author.Tests.{leb-true, eqb-true, le-leb, eq-eqb}
-use Rattle.words.specs.Lists.{run, every, memberOf, joined, sumOver, none}
+use Rattle.words.specs.Lists.{Bytes, run, every, memberOf, joined, sumOver, none}
 use Rattle.words.specs.Words.{bit, digit, ofBits}
 use Rattle.words.specs.Answers.{refused, given, ask}
 use Rattle.words.proofs.Bits.{bit-ofBits}
@@ -19,20 +19,20 @@ use Rattle.words.proofs.Answers.{ask-given, two-given, tests-given, tests-refus
 use Rattle.windows.proofs.Windows.{first-fits}
 use Rattle.walk.specs.declared.Walk.{Walk}
 use Rattle.walk.specs.Walks.{standing, inOrder, freshOf}
-use Rattle.jobs.specs.Bytes.{Bytes, bytesOf}
+use Rattle.jobs.specs.Bytes.{bytesOf}
 use Rattle.jobs.specs.Format.{fieldWidth, versionHas, fieldSize, fieldPlace, valueOr, laidBefore, laid, jobLength, mapIn, fieldIn, hasVersion, versionIn, hasBits}
 use Rattle.jobs.specs.Jobs.{complete, placedBy, walkSaid, savedOf, savedBy, saidBy, knows, readOf, mapFor, fieldFor, jobOf, writeOf}
 use Rattle.jobs.specs.SavedJobs.{FitsTypes, Savable, SavedJobs}
 use Rattle.jobs.specs.declared.Saved.{Saved}
-use Rattle.jobs.proofs.Format.{size-standing, laid-map, laid-field, laid-length, laid-has-version, laid-version, job-laid, field-lt}
+use Rattle.jobs.proofs.Format.{size-standing, size-pos, fits-size, laid-map, laid-field, laid-length, laid-has-version, laid-version, job-laid, field-lt}
 use Rattle.jobs.proofs.Jobs.{value-or-lt, withWritten, fresh-saved, job-length}
 
 -- ---- fields that are read
 
 -- fields that agree where their bits stand say the same
-module _ (m : ℕ) (value other : ℕ → ℕ) (agree : (i : ℕ) → i < 7 → bit m i ≡ true → value i ≡ other i) where
+module _ (m : ℕ) (value other : ℕ → ℕ) (agree : (i : ℕ) → i < 5 → bit m i ≡ true → value i ≡ other i) where
   -- a field or what its absence means
-  same-or : (absent i : ℕ) → i < 7 → valueOr absent m value i ≡ valueOr absent m other i
+  same-or : (absent i : ℕ) → i < 5 → valueOr absent m value i ≡ valueOr absent m other i
   unfolding valueOr
   same-or absent i h = by-value (bit m i) (λ e. rw e (agree i h e)) (λ e. rw e)
 
@@ -50,13 +50,13 @@ module _ (m : ℕ) (value other : ℕ → ℕ) (agree : (i : ℕ) → i < 7 → 
   same-said = by-value (bit m 0) (λ e. rw e (ap (ask (not (bit m 3 && bit m 5)) (refused 19)) (ap₂ savedOf (same-walk e) (same-or 0 4 (omega arith))))) (λ e. rw e)
 
 -- a bit map with fields that fit their bytes is read as they say
-fields-read : (r m : ℕ) (value : ℕ → ℕ) → ((i : ℕ) → value i < 256 ^ fieldWidth i)
+fields-read : (r m : ℕ) (value : ℕ → ℕ) → ((i : ℕ) → 0 < fieldSize m i → value i < 256 ^ fieldSize m i)
     → readOf r (laid m value) ≡ ask (knows r (valueOr 1 m value 7) m) (refused 17) (saidBy m value)
 unfolding readOf fieldWidth
 fields-read r m value fits =
-    let reads : (i : ℕ) → i < 7 → bit m i ≡ true → fieldIn (laid m value) i ≡ value i =
-    λ i h e. laid-field m value i h (subst (λ (n : ℕ). value i < 256 ^ n) (sym (size-standing m i e)) (fits i)) in
-    rw (laid-has-version m value, laid-version m value (fits 7), laid-map m value, eq-eqb (length (laid m value)) (jobLength m) (laid-length m value 7))
+    let version : bit m 7 ≡ true → value 7 < 256 = λ e. let one = size-standing m 7 e in subst (λ (n : ℕ). value 7 < 256 ^ n) one (fits 7 (omega (arith, one))) in
+    let reads : (i : ℕ) → i < 5 → bit m i ≡ true → fieldIn (laid m value) i ≡ value i = λ i h e. laid-field m value i (omega arith) (fits i (size-pos m i h e)) in
+    rw (laid-has-version m value, laid-version m value version, laid-map m value, eq-eqb (length (laid m value)) (jobLength m) (laid-length m value 7))
     (ap (ask (knows r (valueOr 1 m value 7) m) (refused 17)) (same-said m (fieldIn (laid m value)) value reads))
 
 -- ---- the shortest jobs
@@ -66,7 +66,7 @@ genus-alone : (r g : ℕ) (w : Walk) → 1 ≤ r → g < 2 ^ 8 → freshOf g ≡
 unfolding laidBefore joined run fieldSize fieldWidth bytesOf bit knows hasBits versionHas memberOf every valueOr saidBy savedBy complete walkSaid placedBy freshOf
 genus-alone r g w later small e =
     ap (λ (b : ℕ). readOf r (1 ∷ b ∷ [])) (sym (mod-eq-of-lt small))
-    ∙ fields-read r 1 (λ i. getD (g ∷ []) i 0) fits
+    ∙ fields-read r 1 (λ i. getD (g ∷ []) i 0) (λ i. fits-size 1 i (getD (g ∷ []) i 0) (fits i))
     ∙ rw (le-leb 1 r later) (sym (fresh-saved g 1 33 0) ∙ ap (withWritten 0) e)
   where
     fits : (i : ℕ) → getD (g ∷ []) i 0 < 256 ^ fieldWidth i
@@ -74,9 +74,9 @@ genus-alone r g w later small e =
     fits (suc i) = one-le-pow (fieldWidth (suc i)) 256 (omega arith)
 
 -- an empty job, and one that ends before its version byte
-empty-refused : (r : ℕ) → readOf r [] ≡ refused 18
+no-bytes-refused : (r : ℕ) → readOf r [] ≡ refused 18
 unfolding readOf hasVersion
-empty-refused r = refl
+no-bytes-refused r = refl
 
 ended-refused : (r m : ℕ) → bit m 7 ≡ true → readOf r (m ∷ []) ≡ refused 18
 unfolding readOf hasVersion
@@ -139,7 +139,7 @@ written-bits w n i = bit-ofBits (true ∷ true ∷ true ∷ not (w .finished) �
 -- its version
 written-version : (w : Walk) (n : ℕ) → versionIn (jobOf w n) ≡ 2
 unfolding jobOf fieldFor valueOr mapFor ofBits digit bit
-written-version w n = laid-version (mapFor (w .finished)) (fieldFor w n) (omega arith) ∙ by-finished (w .finished)
+written-version w n = laid-version (mapFor (w .finished)) (fieldFor w n) (λ e. omega arith) ∙ by-finished (w .finished)
   where
     by-finished : (f : Bool) → _≡_ {A = ℕ} (cond (bit (mapFor f) 7) 2 1) 2
     by-finished true = refl
@@ -180,7 +180,7 @@ written-says g x lo hi false n h = rw (le-leb g 32 (h .small), h .ordered)
 job-read : (w : Walk) (n : ℕ) → Savable w n → readOf 2 (jobOf w n) ≡ given record { walk = w; written = n }
 unfolding jobOf
 job-read w n h =
-    fields-read 2 (mapFor (w .finished)) (fieldFor w n) (fields-fit w n h) ∙ written-says (w .genus) (w .word) (w .lowest) (w .highest) (w .finished) n h
+    fields-read 2 (mapFor (w .finished)) (fieldFor w n) (λ i. fits-size (mapFor (w .finished)) i (fieldFor w n i) (fields-fit w n h i)) ∙ written-says (w .genus) (w .word) (w .lowest) (w .highest) (w .finished) n h
 
 -- so that different walks or numbers have different jobs
 jobs-differ : (w v : Walk) (n k : ℕ) → Savable w n → Savable v k → jobOf w n ≡ jobOf v k → (w ≡ v) × (n ≡ k)
@@ -267,7 +267,7 @@ pub saved-jobs : SavedJobs
 saved-jobs = record {
   fields-read = fields-read;
   all-read = job-laid;
-  empty-refused = empty-refused;
+  no-bytes-refused = no-bytes-refused;
   ended-refused = ended-refused;
   genus-alone = genus-alone;
   version-1-same = version-1-same;

@@ -1,11 +1,6 @@
--- Lists of bytes, and numbers as bytes, lowest byte first. Assumes nothing: these are definitions.
-use Prim.Native.Nat.{ℕ, zero, suc, _+_, _*_, _/_, _%_, _<_}
+-- Numbers as bytes, lowest byte first. Assumes nothing: these are definitions.
+use Prim.Native.Nat.{ℕ, zero, suc, _+_, _*_, _/_, _%_}
 use mathlib.Core.List.{List, [], _∷_}
-use lib.ListN.{getD}
-
--- a list of bytes: each below 256
-abbrev pub Bytes : List ℕ → Type 0
-Bytes l = (i : ℕ) → getD l i 0 < 256
 
 -- the n lowest bytes of a number
 unfoldable pub bytesOf : ℕ → ℕ → List ℕ

@@ -11,8 +11,8 @@ use Rattle.words.specs.Words.{bit}
 use Rattle.words.specs.Answers.{refused, given, ask}
 use Rattle.walk.specs.declared.Walk.{Walk}
 use Rattle.walk.specs.Walks.{inOrder, freshOf}
-use Rattle.jobs.specs.Bytes.{Bytes}
-use Rattle.jobs.specs.Format.{fieldWidth, valueOr, laid, jobLength, mapIn, fieldIn, hasVersion, versionIn}
+use Rattle.words.specs.Lists.{Bytes}
+use Rattle.jobs.specs.Format.{fieldSize, valueOr, laid, jobLength, mapIn, fieldIn, hasVersion, versionIn}
 use Rattle.jobs.specs.Jobs.{saidBy, knows, readOf, jobOf, writeOf}
 use Rattle.jobs.specs.declared.Saved.{Saved}
 
@@ -34,13 +34,13 @@ abbrev pub fieldsIn : List ℕ → ℕ → ℕ
 fieldsIn job i = cond (eqb i 7) (versionIn job) (fieldIn job i)
 
 pub record SavedJobs : Type 0 where
-  -- a bit map with fields that fit their bytes is read as they say, by the reader of any version
-  pub fields-read : (r m : ℕ) (value : ℕ → ℕ) → ((i : ℕ) → value i < 256 ^ fieldWidth i)
+  -- a bit map with fields that fit their bytes, where they have any, is read as they say, by the reader of any version
+  pub fields-read : (r m : ℕ) (value : ℕ → ℕ) → ((i : ℕ) → 0 < fieldSize m i → value i < 256 ^ fieldSize m i)
       → readOf r (laid m value) ≡ ask (knows r (valueOr 1 m value 7) m) (refused 17) (saidBy m value)
   -- and every list of bytes with the length that its bit map says is laid out of the fields that are read from it: no byte is left over
   pub all-read : (job : List ℕ) → Bytes job → hasVersion job ≡ true → length job ≡ jobLength (mapIn job) → laid (mapIn job) (fieldsIn job) ≡ job
   -- an empty job, and one that ends before its version byte, is refused 18 before all
-  pub empty-refused : (r : ℕ) → readOf r [] ≡ refused 18
+  pub no-bytes-refused : (r : ℕ) → readOf r [] ≡ refused 18
   pub ended-refused : (r m : ℕ) → bit m 7 ≡ true → readOf r (m ∷ []) ≡ refused 18
   -- a job with a genus and no other field is the fresh walk of the whole genus, with no words written
   pub genus-alone : (r g : ℕ) (w : Walk) → 1 ≤ r → g < 2 ^ 8 → freshOf g ≡ given w → readOf r (1 ∷ g ∷ []) ≡ given record { walk = w; written = 0 }

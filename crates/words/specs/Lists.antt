@@ -1,5 +1,5 @@
 -- Lists by which the atlas's definitions are written. Assumes nothing: these are definitions.
-use Prim.Native.Nat.{ℕ, zero, suc, _+_}
+use Prim.Native.Nat.{ℕ, zero, suc, _+_, _<_}
 use mathlib.Core.Bool.{Bool, true, false, cond, not, _&&_}
 use mathlib.Core.List.{List, [], _∷_, _++_, List·Memᴰ}
 use lib.Dec.{eqb}
@@ -64,6 +64,10 @@ fronted l lent = l ++ drop (length l) lent
 unfoldable pub onFrom : ℕ → List ℕ → List ℕ
 onFrom x [] = []
 onFrom x (y ∷ l) = cond (eqb x y) (y ∷ l) (onFrom x l)
+
+-- a list of bytes: each is below 256
+abbrev pub Bytes : List ℕ → Type 0
+Bytes l = (x : ℕ) → List·Memᴰ x l → x < 256
 
 -- each stands in the relation R to every later one
 unfoldable pub Ordered : {A : Type 0} → (A → A → Type 0) → List A → Type 0

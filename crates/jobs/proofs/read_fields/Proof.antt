@@ -10,6 +10,7 @@ use Rattle.walk.specs.declared.WalkAnswer.{WalkAnswer}
 use Rattle.walk.specs.Answers.{begun}
 use Rattle.jobs.specs.Format.{mapIn, fieldIn}
 use Rattle.jobs.specs.Jobs.{walkSaid, savedOf, savedBy}
+use Rattle.jobs.proofs.Bytes.{entries-bytes}
 use Rattle.jobs.proofs.Format.{place-pos}
 use Rattle.jobs.proofs.Jobs.{said-byte, withWritten, said-finished, said-on-word, said-fresh}
 use Rattle.jobs.proofs.read_fields.Statement.{statement}
@@ -28,7 +29,7 @@ cast-lowest : tie.Need-cast-lowest
 cast-lowest c =
     let at-map = c .before .before in
     let job : List ℕ = at-map .before .before .args .job .now in
-    omega (arith, said-byte job (λ i. omega (arith, at-map .shared-slice-known2 .given i)) 1 (omega arith) (c .field-or .ensures) (omega arith))
+    omega (arith, said-byte job (entries-bytes job (λ i. omega (arith, at-map .shared-slice-known2 .given i))) 1 (omega arith) (c .field-or .ensures) (omega arith))
 
 field-or-requires-2 : tie.Need-field-or-requires-2
 field-or-requires-2 c κs = search needs
@@ -37,7 +38,7 @@ cast-highest : tie.Need-cast-highest
 cast-highest c =
     let at-map = c .before .before .before in
     let job : List ℕ = at-map .before .before .args .job .now in
-    omega (arith, said-byte job (λ i. omega (arith, at-map .shared-slice-known2 .given i)) 2 (omega arith) (c .field-or2 .ensures) (omega arith))
+    omega (arith, said-byte job (entries-bytes job (λ i. omega (arith, at-map .shared-slice-known2 .given i))) 2 (omega arith) (c .field-or2 .ensures) (omega arith))
 
 field-or-requires-3 : tie.Need-field-or-requires-3
 field-or-requires-3 c κs = search needs
