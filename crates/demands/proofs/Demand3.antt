@@ -11,7 +11,7 @@ use lib.Seq.{take-at, drop-at, take-add, drop-drop, length-front, length-take-le
 use Rattle.words.specs.Lists.{none, joined, sumOver}
 use Rattle.words.specs.GenusList.{genusList}
 use Rattle.words.specs.Answers.{Answer, given}
-use Rattle.words.proofs.Lists.{none-iff, end-drop, joined-append}
+use Rattle.words.proofs.Lists.{none-iff, end-drop, joined-last}
 use Rattle.words.proofs.GenusList.{genus-list-all}
 use Rattle.windows.specs.Windows.{windowList}
 use Rattle.windows.proofs.Windows.{window-all, window-whole}
@@ -102,9 +102,8 @@ module _ (g lo hi : ℕ) (L : List ℕ) where
     grown = omega (arith, lengths-append calls (c ∷ []), length-drop (N L calls) L)
 
     words : WroteFirst (calls ++ c ∷ [])
-    unfolding joined
     words =
-        joined-append wrote calls (c ∷ []) ∙ ap₂ _++_ h (append-nil (wrote c) ∙ made-wrote g lo hi r lent)
+        joined-last wrote calls c ∙ ap₂ _++_ h (made-wrote g lo hi r lent)
         ∙ sym (take-add (N L calls) k L) ∙ ap (λ (m : ℕ). take m L) grown
 
     left : drop k r ≡ drop (N L (calls ++ c ∷ [])) L

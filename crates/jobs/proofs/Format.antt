@@ -4,7 +4,7 @@ use Prim.Native.Nat.{ℕ, zero, suc, _+_, _*_, _^_, _≤_, _<_}
 use mathlib.Core.Path.{_≡_, refl, sym, _∙_, ap, ap₂, subst}
 use mathlib.Core.Logic.{_≢_}
 use mathlib.Core.Bool.{true, false, not, _||_, and-eq-true-iff}
-use mathlib.Core.List.{List, [], _∷_, _++_, append-assoc, append-nil, List·Memᴰ·head, List·Memᴰ·tail}
+use mathlib.Core.List.{List, [], _∷_, _++_, append-assoc, List·Memᴰ·head, List·Memᴰ·tail}
 use native.Mathlib.Omega.{arith}
 use native.Mathlib.Decide.{ℕ-discrete, decLt}
 use native.Mathlib.Nat.{le-of-eq, le-trans, le-dest, mod-eq-of-lt}
@@ -15,7 +15,7 @@ use lib.Seq.{getD-take, take-all, take-add, take-at, drop-at}
 use Rattle.words.specs.Lists.{Bytes, run, every, memberOf, joined, sumOver}
 use Rattle.words.specs.Words.{bit}
 use Rattle.words.proofs.Booleans.{by-value}
-use Rattle.words.proofs.Lists.{every-entry, run-below, run-last, rises, joined-append, sum-append, length-joined, sum-same}
+use Rattle.words.proofs.Lists.{every-entry, run-below, run-last, rises, joined-append, joined-last, sum-append, length-joined, sum-same}
 use Rattle.jobs.specs.Bytes.{bytesOf, valueOf}
 use Rattle.jobs.specs.Format.{fieldWidths, fieldWidth, versionHas, bitsBefore, fieldSize, fieldPlace, jobLength, valueOr, fieldBytes, laidBefore, laid, mapIn, fieldIn, hasVersion, versionIn}
 use Rattle.jobs.specs.SavedJobs.{fieldsIn}
@@ -158,10 +158,10 @@ module _ (m : ℕ) (value : ℕ → ℕ) where
 
   -- the next one
   pub laid-next : (i : ℕ) → laidBefore m value (suc i) ≡ laidBefore m value i ++ fieldBytes m value i
-  unfolding laidBefore joined
+  unfolding laidBefore
   laid-next i =
       ap (λ (l : List ℕ). m ∷ joined (fieldBytes m value) (7 ∷ l)) (run-last i)
-      ∙ ap (λ (l : List ℕ). m ∷ l) (joined-append (fieldBytes m value) (bitsBefore i) (i ∷ []) ∙ ap (λ (l : List ℕ). joined (fieldBytes m value) (bitsBefore i) ++ l) (append-nil (fieldBytes m value i)))
+      ∙ ap (λ (l : List ℕ). m ∷ l) (joined-last (fieldBytes m value) (bitsBefore i) i)
 
   -- those before a bit end where its field begins
   pub laid-length : (i : ℕ) → length (laidBefore m value i) ≡ fieldPlace m i

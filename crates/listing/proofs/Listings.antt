@@ -11,7 +11,7 @@ use borrow.Author.Tests.{le-leb}
 use Rattle.words.specs.Lists.{none, joined}
 use Rattle.words.specs.GenusList.{genusList}
 use Rattle.words.proofs.Booleans.{not-both}
-use Rattle.words.proofs.Lists.{none-iff, end-drop, joined-append, fronted-length, fronted-front, fronted-rest}
+use Rattle.words.proofs.Lists.{none-iff, end-drop, joined-last, fronted-length, fronted-front, fronted-rest}
 use Rattle.words.proofs.GenusList.{genus-list-mem}
 use Rattle.windows.proofs.Windows.{window-whole}
 use Rattle.walk.specs.Walks.{standing}
@@ -70,8 +70,7 @@ module _ (g : ℕ) (small : g ≤ 32) where
     wrote-text = fronted-front text lent
 
     so-far : joined wroteBytes (calls ++ c ∷ []) ≡ joined wroteBytes calls ++ text
-    unfolding joined
-    so-far = joined-append wroteBytes calls (c ∷ []) ∙ ap (λ (t : List ℕ). joined wroteBytes calls ++ t) (append-nil (wroteBytes c) ∙ wrote-text)
+    so-far = joined-last wroteBytes calls c ∙ ap (λ (t : List ℕ). joined wroteBytes calls ++ t) wrote-text
 
     turns : joined wroteBytes (calls ++ c ∷ []) ++ left ≡ listingOf g
     turns =

@@ -12,7 +12,9 @@ use borrow.Author.Tests.{leb-true, le-leb, lt-leb}
 use Rattle.words.specs.Lists.{fronted}
 use Rattle.words.specs.Sets.{Set, ClosedUnderAddition}
 use Rattle.words.specs.Words.{setOf, genus, closed}
-use Rattle.words.specs.Answers.{Answer, Accepted, refused, given, isGiven, numberOf, ask, askWord, reportOf, Tells, lookOf, ListAnswer, unchanged, filled, intoLent, listedInto, giving}
+use Rattle.words.specs.Answers.{Answer, Accepted, refused, given, isGiven, numberOf, answered, ask, askWord, reportOf, Tells, lookOf, ListAnswer, listed, unchanged, filled, intoLent, listedInto, giving}
+use Rattle.words.specs.declared.NumberAnswer.{NumberAnswer}
+use Rattle.words.specs.declared.NumberAnswer.the-variants as N
 use Rattle.words.specs.declared.Refusal.{Refusal}
 use Rattle.words.specs.declared.Refusal.the-variants.{TooManyGaps, NotClosed, GenusTooLarge, WalkOutOfOrder, NotAGenerator, ListTooShort, ZeroGenerator, CommonDivisor, TooManyGapsGenerated, MalformedInput, ZeroCoordinate, CoordinateSumTooLarge, FailedInequality, EditorOutOfOrder, EditorFull, ByteNotHeld, WrongJobVersion, WrongJobLength, WrongJobFields}
 use Rattle.words.specs.declared.Report.{Report}
@@ -259,6 +261,10 @@ module _ (l lent : List ℕ) where
   -- and one that is not
   pub lent-enough : length l ≤ length lent → intoLent l lent ≡ filled l lent
   lent-enough long = rw (le-leb (length l) (length lent) long)
+
+  -- the number that is given is theirs
+  pub lent-given : {r : NumberAnswer} {after : List ℕ} (n : ℕ) → listed r after ≡ intoLent l lent → r ≡ N.Given n → n ≡ length l
+  lent-given n e g = tests-given 6 6 6 l lent n true true (leb (length l) (length lent)) (sym (ap (λ (t : ListAnswer). t .answer) e) ∙ ap answered g) .2
 
 -- numbers of a word
 module _ (w : ℕ) (l lent : List ℕ) where

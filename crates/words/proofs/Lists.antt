@@ -313,6 +313,11 @@ module _ {A B : Type 0} where
   joined-append f [] l = refl
   joined-append f (x ∷ k) l = ap (λ (t : List B). f x ++ t) (joined-append f k l) ∙ sym (append-assoc (f x) (joined f k) (joined f l))
 
+  -- along a list with one more at its end
+  pub joined-last : (f : A → List B) (k : List A) (x : A) → joined f (k ++ x ∷ []) ≡ joined f k ++ f x
+  unfolding joined
+  joined-last f k x = joined-append f k (x ∷ []) ∙ ap (λ (t : List B). joined f k ++ t) (append-nil (f x))
+
   -- what is joined along a joined list is joined twice
   pub joined-joined : {C : Type 0} (f : A → List B) (h : C → List A) (l : List C) → joined f (joined h l) ≡ joined (λ x. joined f (h x)) l
   unfolding joined
@@ -351,10 +356,7 @@ module _ {A B : Type 0} where
 
   -- along one more of the first of a list
   pub joined-more : (f : A → List B) (l : List A) (i : ℕ) (d : A) → i < length l → joined f (take (i + 1) l) ≡ joined f (take i l) ++ f (getD l i d)
-  unfolding joined
-  joined-more f l i d h =
-      rw (add-one, take-suc l i d)
-      (joined-append f (take i l) (getD l i d ∷ []) ∙ ap (λ (t : List B). joined f (take i l) ++ t) (append-nil (f (getD l i d))))
+  joined-more f l i d h = rw (add-one, take-suc l i d) (joined-last f (take i l) (getD l i d))
 
   -- in order: lists in order, joined along a list in order, each of the one before each of the next
   pub ordered-joined : (Q : A → A → Type 0) (R : B → B → Type 0) (f : A → List B) (l : List A) → Ordered Q l
