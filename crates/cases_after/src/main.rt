@@ -1,13 +1,11 @@
 // Runs further cases of the papers on what comes after the walk: generators both ways, joined lists of them, elementary counts, Kunz
-// coordinates both ways, censuses, a list of generators that changes, saved jobs both ways, the requests of the listing program and the listing of genus 0. What it
-// prints is held to the stored file, which was computed apart from the plain definitions.
+// coordinates both ways, censuses, a list of generators that changes and saved jobs both ways. What it prints is held to the stored file,
+// which was computed apart from the plain definitions.
 use editor::ChangeAnswer;
 use editor::Changed;
 use editor::Editor;
 use jobs::JobAnswer;
 use libc::STDOUT_FILENO;
-use listing::ListingAnswer;
-use listing::PageAnswer;
 use walk::Walk;
 use words::NumberAnswer;
 use words::Refusal;
@@ -203,33 +201,6 @@ fn show_read(job: &[u8]) {
         }
     }
     text(b"\n");
-}
-
-fn show_request(input: &[u8]) {
-    text(b"request");
-    bytes(input);
-    answer(listing::request(input));
-}
-
-// The first n bytes of a list, as text.
-fn front(list: &[u8], n: usize) {
-    if n <= list.len() {
-        text(&list[..n]);
-    }
-}
-
-// The first page of the listing of a genus, in a list of 64 places.
-fn show_listing(genus: u64) {
-    let begun = listing::fresh(genus);
-    let ListingAnswer::Given(start) = begun else {
-        return;
-    };
-    let mut out = [0u8; 64];
-    let paged = listing::next_page(start, &mut out);
-    let answer = paged.answer;
-    if let PageAnswer::Given(page) = answer {
-        front(&out, page.bytes);
-    }
 }
 
 fn generators_out() {
@@ -455,25 +426,6 @@ fn censuses() {
     show_census(18446744073709551615, 0);
 }
 
-fn requests() {
-    show_request(b"3\n");
-    show_request(b"03\n");
-    show_request(b"32\n");
-    show_request(b"33\n");
-    show_request(b"00\n");
-}
-
-fn malformed_requests() {
-    show_request(b"3");
-    show_request(b"\n");
-    show_request(b"003\n");
-    show_request(b"3\n\n");
-    show_request(b"3 \n");
-    show_request(b"-1\n");
-    show_request(b"a\n");
-    show_request(b"3\r\n");
-}
-
 fn main() {
     generators_out();
     words_back();
@@ -491,7 +443,4 @@ fn main() {
     jobs_out();
     jobs_back();
     refused_jobs();
-    requests();
-    malformed_requests();
-    show_listing(0);
 }

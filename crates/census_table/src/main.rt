@@ -3,6 +3,7 @@
 // at place 65 m + c that of multiplicity m, 0 to 33, and conductor c, 0 to 64.
 use libc::STDIN_FILENO;
 use libc::STDOUT_FILENO;
+use listing::RequestAnswer;
 use words::NumberAnswer;
 use words::Refusal;
 
@@ -181,7 +182,8 @@ fn main() {
     let n = io::read_full(STDIN_FILENO, &mut input);
     let answer = listing::request(&input[..n]);
     match answer {
-        NumberAnswer::Refused(refusal) => write_refusal(refusal),
-        NumberAnswer::Given(genus) => write_census(genus),
+        RequestAnswer::Refused(refusal) => write_refusal(refusal),
+        RequestAnswer::Headers => write_refusal(Refusal::MalformedInput),
+        RequestAnswer::Listing(genus) => write_census(genus),
     }
 }

@@ -1,9 +1,11 @@
-// The listing program: reads a genus from standard input and writes its listing, or the line of a refusal.
+// The listing program: reads a genus from standard input and writes its listing; the header lines of genus 0 to 20 where the input is empty;
+// or the line of a refusal.
 use libc::STDIN_FILENO;
 use libc::STDOUT_FILENO;
 use listing::Listing;
 use listing::ListingAnswer;
 use listing::PageAnswer;
+use listing::RequestAnswer;
 use words::NumberAnswer;
 use words::Refusal;
 
@@ -16,6 +18,19 @@ fn write_refusal(refusal: Refusal) {
         NumberAnswer::Given(n) => {
             let end = n as usize;
             io::write_all(STDOUT_FILENO, &line[..end]);
+        }
+    }
+}
+
+// Writes the header lines of genus 0 to 20.
+fn write_headers() {
+    let mut lines = [0u8; 756];
+    let answer = listing::headers(&mut lines);
+    match answer {
+        NumberAnswer::Refused(_) => {}
+        NumberAnswer::Given(n) => {
+            let end = n as usize;
+            io::write_all(STDOUT_FILENO, &lines[..end]);
         }
     }
 }
@@ -60,7 +75,8 @@ fn main() {
     let n = io::read_full(STDIN_FILENO, &mut input);
     let answer = listing::request(&input[..n]);
     match answer {
-        NumberAnswer::Refused(refusal) => write_refusal(refusal),
-        NumberAnswer::Given(genus) => write_listing(genus),
+        RequestAnswer::Refused(refusal) => write_refusal(refusal),
+        RequestAnswer::Headers => write_headers(),
+        RequestAnswer::Listing(genus) => write_listing(genus),
     }
 }

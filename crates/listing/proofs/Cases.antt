@@ -3,15 +3,38 @@ use Prim.Native.Nat.{ℕ}
 use mathlib.Core.Path.{_≡_, refl, ap}
 use mathlib.Core.List.{List, [], _∷_, _++_, map}
 use native.Mathlib.Omega.{arith}
-use lib.ListN.{length}
+use lib.ListN.{length, getD}
 use Rattle.words.specs.Lists.{none, run, keep, keepIf, every, joined, lastOr}
 use Rattle.words.specs.Words.{bit, setOf, gaps, largestGap, conductor, reportedConductor}
 use Rattle.words.specs.Elements.{multiplicity}
 use Rattle.words.specs.Answers.{refused, given}
-use Rattle.words.proofs.Cases.{known-list}
+use Rattle.words.proofs.Cases.{known-lists, known-list}
 use Rattle.listing.specs.Decimal.{digits, decimal, isDigit, valueAfter}
-use Rattle.listing.specs.Text.{field, header, headerOf, lineOf, listingOf, refusalLine}
-use Rattle.listing.specs.Request.{wellFormed, requestOf, answerText, textOf}
+use Rattle.listing.specs.Text.{field, header, headerOf, lineOf, listingOf, headersTo, refusalLine}
+use Rattle.listing.specs.Request.{headersAlone, listingFor, wellFormed, requestOf, answerText, textOf}
+
+-- the header lines of genus 0 to 8:
+--     genus 0 count 1
+--     genus 1 count 1
+--     genus 2 count 2
+--     genus 3 count 4
+--     genus 4 count 7
+--     genus 5 count 12
+--     genus 6 count 23
+--     genus 7 count 39
+--     genus 8 count 67
+pub known-headers : headersTo 8
+    ≡ (103 ∷ 101 ∷ 110 ∷ 117 ∷ 115 ∷ 32 ∷ 48 ∷ 32 ∷ 99 ∷ 111 ∷ 117 ∷ 110 ∷ 116 ∷ 32 ∷ 49 ∷ 10 ∷ [])
+    ++ (103 ∷ 101 ∷ 110 ∷ 117 ∷ 115 ∷ 32 ∷ 49 ∷ 32 ∷ 99 ∷ 111 ∷ 117 ∷ 110 ∷ 116 ∷ 32 ∷ 49 ∷ 10 ∷ [])
+    ++ (103 ∷ 101 ∷ 110 ∷ 117 ∷ 115 ∷ 32 ∷ 50 ∷ 32 ∷ 99 ∷ 111 ∷ 117 ∷ 110 ∷ 116 ∷ 32 ∷ 50 ∷ 10 ∷ [])
+    ++ (103 ∷ 101 ∷ 110 ∷ 117 ∷ 115 ∷ 32 ∷ 51 ∷ 32 ∷ 99 ∷ 111 ∷ 117 ∷ 110 ∷ 116 ∷ 32 ∷ 52 ∷ 10 ∷ [])
+    ++ (103 ∷ 101 ∷ 110 ∷ 117 ∷ 115 ∷ 32 ∷ 52 ∷ 32 ∷ 99 ∷ 111 ∷ 117 ∷ 110 ∷ 116 ∷ 32 ∷ 55 ∷ 10 ∷ [])
+    ++ (103 ∷ 101 ∷ 110 ∷ 117 ∷ 115 ∷ 32 ∷ 53 ∷ 32 ∷ 99 ∷ 111 ∷ 117 ∷ 110 ∷ 116 ∷ 32 ∷ 49 ∷ 50 ∷ 10 ∷ [])
+    ++ (103 ∷ 101 ∷ 110 ∷ 117 ∷ 115 ∷ 32 ∷ 54 ∷ 32 ∷ 99 ∷ 111 ∷ 117 ∷ 110 ∷ 116 ∷ 32 ∷ 50 ∷ 51 ∷ 10 ∷ [])
+    ++ (103 ∷ 101 ∷ 110 ∷ 117 ∷ 115 ∷ 32 ∷ 55 ∷ 32 ∷ 99 ∷ 111 ∷ 117 ∷ 110 ∷ 116 ∷ 32 ∷ 51 ∷ 57 ∷ 10 ∷ [])
+    ++ (103 ∷ 101 ∷ 110 ∷ 117 ∷ 115 ∷ 32 ∷ 56 ∷ 32 ∷ 99 ∷ 111 ∷ 117 ∷ 110 ∷ 116 ∷ 32 ∷ 54 ∷ 55 ∷ 10 ∷ [])
+unfolding run joined digits decimal field header headerOf headersTo
+known-headers = ap (λ (counts : List ℕ). joined (λ g. header g (getD counts g 0)) (run 0 9)) (known-lists .1)
 
 -- the line of the word 0, which has no gap: "0 0 1"
 pub line-zero : lineOf 0 ≡ 48 ∷ 32 ∷ 48 ∷ 32 ∷ 49 ∷ 10 ∷ []
@@ -44,16 +67,19 @@ listing-three =
     let list : List ℕ → List ℕ = λ l. 103 ∷ 101 ∷ 110 ∷ 117 ∷ 115 ∷ 32 ∷ 51 ∷ 32 ∷ 99 ∷ 111 ∷ 117 ∷ 110 ∷ 116 ∷ 32 ∷ [] ++ field (length l) 10 ++ joined lineOf l in
     ap list (known-list 3 (omega arith))
 
--- the requests "0", "3", "03" and "32" with a line feed, then "33", "99"; an empty input, "4" without a line feed, "4" with two, "a", "012"
+-- the requests "0", "3", "03" and "32" with a line feed, then "33", "99"; an empty input, which is the only one that asks for header lines;
+-- a line feed, two, "4" without a line feed, "4" with two, "a", "012"
 pub known-requests : map requestOf
     ((48 ∷ 10 ∷ []) ∷ (51 ∷ 10 ∷ []) ∷ (48 ∷ 51 ∷ 10 ∷ []) ∷ (51 ∷ 50 ∷ 10 ∷ []) ∷ (51 ∷ 51 ∷ 10 ∷ []) ∷ (57 ∷ 57 ∷ 10 ∷ [])
-    ∷ [] ∷ (52 ∷ []) ∷ (52 ∷ 10 ∷ 10 ∷ []) ∷ (97 ∷ 10 ∷ []) ∷ (48 ∷ 49 ∷ 50 ∷ 10 ∷ []) ∷ [])
-    ≡ given 0 ∷ given 3 ∷ given 3 ∷ given 32 ∷ refused 3 ∷ refused 3 ∷ refused 10 ∷ refused 10 ∷ refused 10 ∷ refused 10 ∷ refused 10 ∷ []
-unfolding every lastOr isDigit valueAfter wellFormed requestOf
+    ∷ [] ∷ (10 ∷ []) ∷ (10 ∷ 10 ∷ []) ∷ (52 ∷ []) ∷ (52 ∷ 10 ∷ 10 ∷ []) ∷ (97 ∷ 10 ∷ []) ∷ (48 ∷ 49 ∷ 50 ∷ 10 ∷ []) ∷ [])
+    ≡ given (listingFor 0) ∷ given (listingFor 3) ∷ given (listingFor 3) ∷ given (listingFor 32) ∷ refused 3 ∷ refused 3
+    ∷ given headersAlone ∷ refused 10 ∷ refused 10 ∷ refused 10 ∷ refused 10 ∷ refused 10 ∷ refused 10 ∷ []
+unfolding none every lastOr isDigit valueAfter wellFormed requestOf
 known-requests = refl
 
--- the program writes the listing of genus 3 for "03" and "refused 10" for an empty input
+-- the program writes the listing of genus 3 for "03", the header lines of genus 0 to 20 for an empty input and "refused 10" for a line feed
 pub known-texts : (textOf (48 ∷ 51 ∷ 10 ∷ []) ≡ listingOf 3)
-    × (textOf [] ≡ 114 ∷ 101 ∷ 102 ∷ 117 ∷ 115 ∷ 101 ∷ 100 ∷ 32 ∷ 49 ∷ 48 ∷ 10 ∷ [])
-unfolding every lastOr isDigit valueAfter wellFormed requestOf answerText textOf digits decimal field refusalLine
-known-texts = (refl, refl)
+    × (textOf [] ≡ headersTo 20)
+    × (textOf (10 ∷ []) ≡ 114 ∷ 101 ∷ 102 ∷ 117 ∷ 115 ∷ 101 ∷ 100 ∷ 32 ∷ 49 ∷ 48 ∷ 10 ∷ [])
+unfolding none every lastOr isDigit valueAfter wellFormed requestOf answerText textOf digits decimal field refusalLine
+known-texts = (refl, refl, refl)

@@ -2,7 +2,9 @@ pub mod Decimal
 pub mod Writing
 pub mod Lines
 pub mod Requests
+pub mod HeaderLines
 pub mod Pages
 pub mod Listings
 pub mod Program
+pub mod NoInput
 pub mod Cases

@@ -10,7 +10,6 @@ use lib.ListN.{length, take, drop, length-append, length-drop, take-append-drop}
 use lib.Seq.{take-at, length-take-le}
 use borrow.Author.Tests.{le-leb, lt-leb, leb-true}
 use Rattle.words.specs.Lists.{none, joined, fronted}
-use Rattle.words.specs.GenusList.{genusList}
 use Rattle.words.specs.Answers.{Answer, refused, given, ask}
 use Rattle.words.proofs.Booleans.{not-both, by-value}
 use Rattle.words.proofs.Lists.{end-drop, joined-append}
@@ -18,12 +17,12 @@ use Rattle.walk.specs.declared.Walk.{Walk}
 use Rattle.walk.specs.declared.Written.{Written}
 use Rattle.walk.specs.declared.BatchAnswer.{BatchAnswer}
 use Rattle.walk.specs.declared.BatchAnswer.the-variants as B
-use Rattle.walk.specs.Walks.{rest, standing, inOrder, freshOf, unmoved, moved, ended, Ending, batchOf, countOf}
-use Rattle.walk.proofs.Walks.{rest-end, rest-standing, batch-moves, fresh-answers, fresh-in-refused, count-all}
+use Rattle.walk.specs.Walks.{rest, standing, inOrder, freshOf, unmoved, moved, ended, Ending, batchOf}
+use Rattle.walk.proofs.Walks.{rest-end, rest-standing, batch-moves, fresh-answers, fresh-in-refused}
 use Rattle.listing.specs.declared.Listing.{Listing}
 use Rattle.listing.specs.declared.Page.{Page}
 use Rattle.listing.specs.declared.PageAnswer.the-variants as P
-use Rattle.listing.specs.Text.{header, headerOf, lineOf}
+use Rattle.listing.specs.Text.{lineOf}
 use Rattle.listing.specs.Pages.{freshListingOf, headingOf, Turn, turned, unturned, linesWithin, pageWritten, pageOf}
 use Rattle.listing.proofs.Lines.{header-of-le}
 
@@ -96,17 +95,6 @@ page-given l lent p e = by-questions (leb (l .walk .genus) 32) (inOrder (l .walk
     by-questions true true false e = absurd (let z : _≡_ {A = ℕ} 0 1 = cc in omega arith)
     by-questions true false c e = absurd (let z : _≡_ {A = ℕ} 0 1 = cc in omega arith)
     by-questions false b c e = absurd (let z : _≡_ {A = ℕ} 0 1 = cc in omega arith)
-
--- ---- the header
-
--- the count call for word 0 gives the number of semigroups of the genus
-pub count-given : {g n : ℕ} → countOf 0 g ≡ given n → g ≤ 32 → headerOf g ≡ header g n
-unfolding headerOf
-count-given {g} {n} e small = let all = count-all g small in let same : length (genusList g) ≡ n = cc in ap (header g) same
-
--- and is not refused
-pub count-not-refused : {g n : ℕ} → countOf 0 g ≡ refused n → g ≤ 32 → ⊥
-count-not-refused {g} {n} e small = let all = count-all g small in let z : _≡_ {A = ℕ} 0 1 = cc in omega arith
 
 -- ---- the lines of a page
 

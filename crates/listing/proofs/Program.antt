@@ -1,4 +1,5 @@
--- What the listing program writes for an input is the line of a refusal, or the pages of a listing joined. Assumes nothing.
+-- What the listing program writes for an input is the line of a refusal, the header lines of genus 0 to 20, or the pages of a listing
+-- joined. Assumes nothing.
 use Prim.Native.Nat.{ℕ, _≤_, _<_}
 use mathlib.Core.Path.{_≡_, refl, sym, _∙_, ap}
 use mathlib.Core.Logic.{_⊎_, inl, inr}
@@ -8,18 +9,20 @@ use native.Mathlib.Omega.{arith}
 use lib.Dec.{leb}
 use lib.ListN.{length, length-map}
 use borrow.Author.Tests.{le-leb, leb-true}
-use Rattle.words.specs.Lists.{joined, fronted}
+use Rattle.words.specs.Lists.{none, joined, fronted}
 use Rattle.words.specs.GenusList.{genusList}
 use Rattle.words.specs.Answers.{refused, given, ask}
+use Rattle.words.proofs.Answers.{lent-enough}
 use Rattle.words.proofs.First.{genus-list-first}
 use Rattle.listing.specs.declared.Listing.{Listing}
 use Rattle.listing.specs.declared.Page.{Page}
 use Rattle.listing.specs.Decimal.{value}
-use Rattle.listing.specs.Text.{listingOf, refusalLine, refusalLineOf}
-use Rattle.listing.specs.Request.{allButLast, wellFormed, requestOf, answerText, textOf}
+use Rattle.listing.specs.Text.{listingOf, headerLines, headersOf, refusalLine, refusalLineOf}
+use Rattle.listing.specs.Request.{listingFor, allButLast, wellFormed, requestOf, answerText, textOf}
 use Rattle.listing.specs.Pages.{PageCall, pages, wroteBytes, Listed}
-use Rattle.listing.specs.Program.{RefusalText, PagesText, ProgramTexts}
+use Rattle.listing.specs.Program.{RefusalText, HeadersText, PagesText, ProgramTexts}
 use Rattle.listing.proofs.Lines.{refusal-line-le}
+use Rattle.listing.proofs.HeaderLines.{header-lines-le}
 use Rattle.listing.proofs.Listings.{listings}
 
 -- a refused input: its text is the line of the refusal, which has its places
@@ -35,6 +38,17 @@ refusal-text input n h e =
       line = λ lent room. rw (le-leb 11 (length lent) room) (ap (λ (t : List ℕ). (given (length t), fronted t lent)) (sym text));
     }
 
+-- no bytes: the text is the header lines, which have their places
+headers-text : HeadersText []
+unfolding none headersOf requestOf answerText textOf
+headers-text = record {
+  empty = refl;
+  asked = refl;
+  text = refl;
+  fits = header-lines-le;
+  written = λ lent room. lent-enough headerLines lent (omega (arith, header-lines-le));
+}
+
 -- a list that is not empty, by its last member
 by-last : {A C : Type 0} (l : List A) → 0 < length l → ((k : List A) (x : A) → l ≡ k ++ x ∷ [] → C) → C
 by-last [] h f = absurd (omega arith)
@@ -42,7 +56,7 @@ by-last (x ∷ []) h f = f [] x refl
 by-last (y ∷ z ∷ l) h f = by-last (z ∷ l) (omega arith) (λ k x e. f (y ∷ k) x (ap (λ (t : List _). y ∷ t) e))
 
 -- an input that asks for a genus
-module _ (input : List ℕ) (g : ℕ) (small : g ≤ 32) (asked : requestOf input ≡ given g) where
+module _ (input : List ℕ) (g : ℕ) (small : g ≤ 32) (asked : requestOf input ≡ given (listingFor g)) where
   -- the text is the listing of the genus
   text : textOf input ≡ listingOf g
   unfolding answerText textOf
@@ -96,16 +110,20 @@ module _ (input : List ℕ) (g : ℕ) (small : g ≤ 32) (asked : requestOf inpu
     all-pages = all-pages;
   }
 
--- every input is refused or asks for a genus up to 32, by the questions that are put to it
+-- every input is empty, is refused or asks for a genus up to 32, by the questions that are put to it
 pub program-texts : ProgramTexts
-unfolding requestOf
-program-texts input = by-questions (wellFormed input) (leb genus 32) refl refl
+unfolding none requestOf
+program-texts [] = inr (inl headers-text)
+program-texts (b ∷ l) = by-questions (wellFormed input) (leb genus 32) refl refl
   where
+    input : List ℕ
+    input = b ∷ l
+
     genus : ℕ
     genus = value (allButLast input)
 
-    by-questions : (formed small : Bool) → requestOf input ≡ ask formed (refused 10) (ask small (refused 3) (given genus)) → leb genus 32 ≡ small
-        → RefusalText input ⊎ PagesText input
+    by-questions : (formed small : Bool) → requestOf input ≡ ask formed (refused 10) (ask small (refused 3) (given (listingFor genus))) → leb genus 32 ≡ small
+        → RefusalText input ⊎ (HeadersText input ⊎ PagesText input)
     by-questions false small e s = inl (refusal-text input 10 (omega arith) e)
     by-questions true false e s = inl (refusal-text input 3 (omega arith) e)
-    by-questions true true e s = inr (pages-text input genus (leb-true genus 32 s) e)
+    by-questions true true e s = inr (inr (pages-text input genus (leb-true genus 32 s) e))

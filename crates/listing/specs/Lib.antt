@@ -4,3 +4,4 @@ pub mod Request
 pub mod Writing
 pub mod Pages
 pub mod Program
+pub mod NoInput

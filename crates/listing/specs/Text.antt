@@ -1,13 +1,14 @@
--- The text of a listing and of a refusal, as bytes. Assumes nothing: these are definitions.
-use Prim.Native.Nat.{ℕ}
+-- The text of a listing, of header lines alone and of a refusal, as bytes; and a text by its lines. Assumes nothing: these are definitions.
+use Prim.Native.Nat.{ℕ, suc}
+use mathlib.Core.Bool.{cond}
 use mathlib.Core.List.{List, [], _∷_, _++_}
-use lib.Dec.{leb}
-use lib.ListN.{length}
-use Rattle.words.specs.Lists.{joined, fronted}
+use lib.Dec.{leb, eqb}
+use lib.ListN.{length, getD}
+use Rattle.words.specs.Lists.{run, joined, fronted}
 use Rattle.words.specs.Words.{reportedConductor}
 use Rattle.words.specs.Elements.{multiplicity}
 use Rattle.words.specs.GenusList.{genusList}
-use Rattle.words.specs.Answers.{Answer, refused, given, ask}
+use Rattle.words.specs.Answers.{Answer, refused, given, ask, ListAnswer, intoLent}
 use Rattle.listing.specs.Decimal.{decimal}
 
 -- the bytes between fields and at the end of a line
@@ -47,6 +48,18 @@ lineOf w = field w blank ++ field (reportedConductor w) blank ++ field (multipli
 unfoldable pub listingOf : ℕ → List ℕ
 listingOf g = headerOf g ++ joined lineOf (genusList g)
 
+-- the header lines of genus 0 to n, in order
+unfoldable pub headersTo : ℕ → List ℕ
+headersTo n = joined headerOf (run 0 (suc n))
+
+-- those that are written where no genus is asked for: of genus 0 to 20
+abbrev pub headerLines : List ℕ
+headerLines = headersTo 20
+
+-- those in a lent list: question 6, does it hold all of them
+unfoldable pub headersOf : List ℕ → ListAnswer
+headersOf lent = intoLent headerLines lent
+
 -- the line of a refusal with the number n
 unfoldable pub refusalLine : ℕ → List ℕ
 refusalLine n = refusedWord ++ field n lineFeed
@@ -54,3 +67,19 @@ refusalLine n = refusedWord ++ field n lineFeed
 -- the line of a refusal with the number n in a list that has 11 places: its length, and the list afterwards; else question 6
 unfoldable pub refusalLineOf : ℕ → List ℕ → Answer ℕ × List ℕ
 refusalLineOf n lent = ask (leb 11 (length lent)) (refused 6, lent) (given (length (refusalLine n)), fronted (refusalLine n) lent)
+
+-- ---- a text by its lines
+
+-- a byte in front of the first of some lines; a line of its own where there are none
+unfoldable pub ontoFirst : ℕ → List (List ℕ) → List (List ℕ)
+ontoFirst b [] = (b ∷ []) ∷ []
+ontoFirst b (line ∷ lines) = (b ∷ line) ∷ lines
+
+-- the lines of a text, each with the line feed that ends it
+unfoldable pub linesOf : List ℕ → List (List ℕ)
+linesOf [] = []
+linesOf (b ∷ text) = cond (eqb b lineFeed) ((b ∷ []) ∷ linesOf text) (ontoFirst b (linesOf text))
+
+-- the first line of a text; no bytes where it has none
+unfoldable pub firstLine : List ℕ → List ℕ
+firstLine text = getD (linesOf text) 0 []

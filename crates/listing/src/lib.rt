@@ -1,4 +1,4 @@
-// The listing of a genus as text in lent lists of bytes, and the reading of the program's input.
+// The listing of a genus as text in lent lists of bytes, header lines alone, and the reading of the program's input.
 ghost use Prim.Native.Nat.{_+_, _*_, _/_, _≤_, min};
 ghost use mathlib.Core.Path.{_≡_};
 ghost use mathlib.Core.Bool.{cond};
@@ -6,10 +6,10 @@ ghost use mathlib.Core.List.{[], _∷_, _++_};
 ghost use lib.Dec.{leb};
 ghost use lib.ListN.{length};
 ghost use Rattle.words.specs.Lists.{joined};
-ghost use Rattle.words.specs.Answers.{numberOf, answered};
+ghost use Rattle.words.specs.Answers.{numberOf, answered, listed};
 ghost use Rattle.listing.specs.Decimal.{decimal, isDigit};
-ghost use Rattle.listing.specs.Text.{field, header, lineOf, refusalLineOf};
-ghost use Rattle.listing.specs.Request.{requestOf};
+ghost use Rattle.listing.specs.Text.{field, header, headerOf, headerLines, headersOf, lineOf, refusalLineOf};
+ghost use Rattle.listing.specs.Request.{requestAnswered, requestOf};
 ghost use Rattle.listing.specs.Writing.{Puts};
 ghost use Rattle.listing.specs.Pages.{opened, freshListingOf, headingOf, linesWithin, turned, pageOf};
 use walk::BatchAnswer;
@@ -17,6 +17,13 @@ use walk::Walk;
 use walk::WalkAnswer;
 use words::NumberAnswer;
 use words::Refusal;
+
+// What an input asks for: nothing, as it is refused, header lines alone, or the listing of a genus.
+pub enum RequestAnswer {
+    Refused(Refusal),
+    Headers,
+    Listing(u64),
+}
 
 // A listing under way: whether its header was written, and the walk over the semigroups whose lines were not.
 pub struct Listing {
@@ -58,38 +65,41 @@ fn is_digit(byte: u8) -> bool
     byte <= b'9'
 }
 
-// The genus that two digits and a line feed ask for.
-fn request_of_two(tens: u8, ones: u8, end: u8) -> NumberAnswer
-    ensures { λ r. ⌜ answered r ≡ requestOf (tens ∷ ones ∷ end ∷ []) ⌝ }
+// What two digits and a line feed ask for: the listing of their genus.
+fn request_of_two(tens: u8, ones: u8, end: u8) -> RequestAnswer
+    ensures { λ r. ⌜ requestAnswered r ≡ requestOf (tens ∷ ones ∷ end ∷ []) ⌝ }
 {
     if end != b'\n' {
-        return NumberAnswer::Refused(Refusal::MalformedInput);
+        return RequestAnswer::Refused(Refusal::MalformedInput);
     }
     if !is_digit(tens) {
-        return NumberAnswer::Refused(Refusal::MalformedInput);
+        return RequestAnswer::Refused(Refusal::MalformedInput);
     }
     if !is_digit(ones) {
-        return NumberAnswer::Refused(Refusal::MalformedInput);
+        return RequestAnswer::Refused(Refusal::MalformedInput);
     }
     let genus = (tens - b'0') as u64 * 10 + (ones - b'0') as u64;
     if 32 < genus {
-        return NumberAnswer::Refused(Refusal::GenusTooLarge);
+        return RequestAnswer::Refused(Refusal::GenusTooLarge);
     }
-    NumberAnswer::Given(genus)
+    RequestAnswer::Listing(genus)
 }
 
-// The genus that an input asks for: one digit is read as two, the first of which is 0.
-pub fn request(input: &[u8]) -> NumberAnswer
-    ensures { λ r. ⌜ answered r ≡ requestOf (now (input .entry)) ⌝ }
+// What an input asks for: no bytes ask for header lines alone; one digit is read as two, the first of which is 0.
+pub fn request(input: &[u8]) -> RequestAnswer
+    ensures { λ r. ⌜ requestAnswered r ≡ requestOf (now (input .entry)) ⌝ }
 {
     let n = input.len();
+    if n == 0 {
+        return RequestAnswer::Headers;
+    }
     if n == 2 {
         return request_of_two(b'0', input[0], input[1]);
     }
     if n == 3 {
         return request_of_two(input[0], input[1], input[2]);
     }
-    NumberAnswer::Refused(Refusal::MalformedInput)
+    RequestAnswer::Refused(Refusal::MalformedInput)
 }
 
 // Writes a number in decimal from the place `at` on, and gives the place after it.
@@ -181,15 +191,27 @@ pub fn fresh(genus: u64) -> ListingAnswer
     }
 }
 
-// Writes a header to the front of a list.
-fn put_header(out: &mut [u8], genus: u64, count: u64) -> usize
-    requires { ⌜ (genus ≤ 32) × (36 ≤ length (now out)) ⌝ }
-    ensures { λ r. ⌜ Puts (now (out .entry)) 0 (header genus count) (now (out .exit)) r ⌝ }
+// Writes a header.
+fn put_header(out: &mut [u8], at: usize, genus: u64, count: u64) -> usize
+    requires { ⌜ (genus ≤ 32) × (at + 36 ≤ length (now out)) ⌝ }
+    ensures { λ r. ⌜ Puts (now (out .entry)) at (header genus count) (now (out .exit)) r ⌝ }
 {
-    let first = put_bytes(out, 0, b"genus ");
+    let first = put_bytes(out, at, b"genus ");
     let second = put_field(out, first, genus, b' ');
     let third = put_bytes(out, second, b"count ");
     put_field(out, third, count, b'\n')
+}
+
+// Writes the header of a genus.
+fn put_header_of(out: &mut [u8], at: usize, genus: u64) -> usize
+    requires { ⌜ (genus ≤ 32) × (at + 36 ≤ length (now out)) ⌝ }
+    ensures { λ r. ⌜ Puts (now (out .entry)) at (headerOf genus) (now (out .exit)) r ⌝ }
+{
+    let answer = walk::count(0, genus);
+    match answer {
+        NumberAnswer::Refused(_) => at,
+        NumberAnswer::Given(count) => put_header(out, at, genus, count),
+    }
 }
 
 // Writes the header of a genus to the front of a list, unless it was written, and gives the place after it.
@@ -200,11 +222,35 @@ fn put_heading(out: &mut [u8], headed: bool, genus: u64) -> usize
     if headed {
         return 0;
     }
-    let answer = walk::count(0, genus);
-    match answer {
-        NumberAnswer::Refused(_) => 0,
-        NumberAnswer::Given(count) => put_header(out, genus, count),
+    put_header_of(out, 0, genus)
+}
+
+// Writes the header lines of genus 0 to 20 to the front of a list.
+fn put_headers(out: &mut [u8]) -> usize
+    requires { ⌜ 1024 ≤ length (now out) ⌝ }
+    ensures { λ r. ⌜ Puts (now (out .entry)) 0 headerLines (now (out .exit)) r ⌝ }
+{
+    let mut next = 0;
+    let mut genus = 0;
+    while genus < 21 {
+        next = put_header_of(out, next, genus);
+        genus += 1;
     }
+    next
+}
+
+// Writes the header lines of genus 0 to 20 to the front of a list, and gives their length. Refused in a list that does not hold all of them:
+// then nothing is written.
+pub fn headers(out: &mut [u8]) -> NumberAnswer
+    ensures { λ r. ⌜ listed r (now (out .exit)) ≡ headersOf (now (out .entry)) ⌝ }
+{
+    let mut lines = [0u8; 1024];
+    let end = put_headers(&mut lines);
+    if out.len() < end {
+        return NumberAnswer::Refused(Refusal::ListTooShort);
+    }
+    put_bytes(out, 0, &lines[..end]);
+    NumberAnswer::Given(end as u64)
 }
 
 // Writes the text of a page to the front of a list: the header, unless it was written, and the lines of the words.

@@ -1,7 +1,6 @@
 -- `listing::put_header` meets its contract: its parts are written one behind the other. Assumes nothing.
-use Prim.Native.Nat.{_≤_}
+use Prim.Native.Nat.{_+_, _≤_}
 use native.Mathlib.Omega.{arith}
-use native.Mathlib.Nat.{le-trans}
 use lib.ListN.{length}
 use Rattle.listing.specs.Text.{header}
 use Rattle.listing.proofs.Lines.{header-parts, header-le}
@@ -11,14 +10,14 @@ use Rattle.listing.proofs.put_header.Statement.{statement}
 use Rattle.listing.proofs.put_header.Tie as tie
 
 -- the list has room for the header
-room : (c : tie.Start) → length (header (c .args .genus) (c .args .count)) ≤ length (c .args .out .now)
-room c = le-trans (header-le (c .args .genus) (c .args .count) (c .pre .0) (c .fits .count .fits)) (c .pre .1)
+room : (c : tie.Start) → c .args .at + length (header (c .args .genus) (c .args .count)) ≤ length (c .args .out .now)
+room c = omega (arith, header-le (c .args .genus) (c .args .count) (c .pre .0) (c .fits .count .fits), c .pre .1)
 
 slice-aggregate-put-bytes : tie.Need-slice-aggregate-put-bytes
 slice-aggregate-put-bytes c = search needs
 
 put-bytes-requires : tie.Need-put-bytes-requires
-put-bytes-requires c κs = search needs
+put-bytes-requires c κs = omega (arith, c .before .before .before .pre .1)
 
 put-field-requires : tie.Need-put-field-requires
 put-field-requires c κs =

@@ -4,11 +4,9 @@ use mathlib.Core.Path.{_≡_, sym, _∙_}
 use mathlib.Core.Bool.{true, false, and-false}
 use mathlib.Core.List.{[], _∷_}
 use native.Mathlib.Omega.{arith}
-use lib.Dec.{leb}
 use borrow.Author.Tests.{ne-eqb, lt-leb, le-leb, not-true, not-false}
-use Rattle.words.specs.Answers.{refused, given, ask}
 use Rattle.listing.specs.Decimal.{isDigit}
-use Rattle.listing.specs.Request.{requestOf}
+use Rattle.listing.specs.Request.{genusAsked, requestOf}
 use Rattle.listing.proofs.Requests.{digit-range, request-two, request-two-asked}
 use borrow.Author.Needs.{needs}
 use Rattle.listing.proofs.request_of_two.Statement.{statement}
@@ -66,7 +64,7 @@ add-genus c = search needs
 abbrev genus : tie.Else3 → ℕ
 genus c = (c .before .before .before .before .before .args .tens - 48) * 10 + (c .before .before .before .before .before .args .ones - 48)
 
-asks : (c : tie.Else3) → requestOf (c .before .before .before .before .before .args .tens ∷ c .before .before .before .before .before .args .ones ∷ c .before .before .before .before .before .args .end ∷ []) ≡ ask (leb (genus c) 32) (refused 3) (given (genus c))
+asks : (c : tie.Else3) → requestOf (c .before .before .before .before .before .args .tens ∷ c .before .before .before .before .before .args .ones ∷ c .before .before .before .before .before .args .end ∷ []) ≡ genusAsked (genus c)
 asks c = request-two-asked _ _ _ (both c .0) (both c .1) (ends c)
 
 returns-4 : tie.Need-returns-4

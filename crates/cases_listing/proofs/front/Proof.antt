@@ -1,10 +1,10 @@
--- `cases_after::front` stays within its list: it writes no more places than there are. Assumes nothing.
+-- `cases_listing::front` stays within its list: it writes no more places than there are. Assumes nothing.
 use mathlib.Core.Path.{sym}
 use native.Mathlib.Omega.{arith}
 use lib.Seq.{length-take-le}
 use borrow.Author.Needs.{needs}
-use Rattle.cases_after.proofs.front.Statement.{statement}
-use Rattle.cases_after.proofs.front.Tie as tie
+use Rattle.cases_listing.proofs.front.Statement.{statement}
+use Rattle.cases_listing.proofs.front.Tie as tie
 
 slice-aggregate-text : tie.Need-slice-aggregate-text
 slice-aggregate-text c = sym (length-take-le _ _ (omega arith))
