@@ -3,10 +3,13 @@
 //! plain definitions: sets of numbers, sums of two elements, gap lists, and jobs read byte after byte. It uses no seed tables but those of
 //! definition 1.3, and no bit tricks but in the censuses of genus 19 and above, which are made by counts of leading and trailing bits. Searches
 //! and censuses in these genera are held to the lists of the atlas's own walk, the sums over each census to its count and its elementary
-//! counts, and the grandchildren of all words of three genera, together, to the known numbers of semigroups two genera on. Prints the seed, the
-//! number of calls of each kind and the number of differences, which must be 0.
+//! counts, and the grandchildren of all words of three genera, together, to the known numbers of semigroups two genera on. The listing program
+//! is run on all inputs of at most one byte and on others. Prints the seed, the number of calls of each kind and the number of differences,
+//! which must be 0.
 
 use std::collections::HashMap;
+use std::io::Write;
+use std::process::{Command, Stdio};
 
 // ---- the atlas, by its C interface (include/atlas.h)
 
@@ -692,6 +695,37 @@ fn saved(job: &[u8], places: &Places) -> Saved {
             walk: not_begun(refused).walk,
             written: 0,
         },
+    }
+}
+
+/// The genus that an input of the listing program with at least one byte asks for.
+fn asked_genus(input: &[u8]) -> Result<u64, u64> {
+    match input {
+        [digits @ .., b'\n'] if (1..3).contains(&digits.len()) && digits.iter().all(u8::is_ascii_digit) => {
+            let genus = digits.iter().fold(0, |n, &digit| 10 * n + (digit - b'0') as u64);
+            if genus <= 32 { Ok(genus) } else { Err(3) }
+        }
+        _ => Err(10),
+    }
+}
+
+/// The header of a genus with these words.
+fn header_line(genus: usize, list: &[u64]) -> String {
+    format!("genus {genus} count {}\n", list.len())
+}
+
+/// What the listing program writes for an input; `lists` has the words of each genus that is listed, and of genus 0 to 20.
+fn program_text(input: &[u8], lists: &[Vec<u64>]) -> String {
+    if input.is_empty() {
+        return (0..=20).map(|g| header_line(g, &lists[g])).collect();
+    }
+    match asked_genus(input) {
+        Err(number) => format!("refused {number}\n"),
+        Ok(genus) => {
+            let list = &lists[genus as usize];
+            let lines = list.iter().map(|&w| format!("{w} {} {}\n", reported_conductor(w), multiplicity(w)));
+            std::iter::once(header_line(genus as usize, list)).chain(lines).collect()
+        }
     }
 }
 
@@ -1989,6 +2023,53 @@ fn jobs(words: &Words, r: &mut Random) -> [Kind; 5] {
     ]
 }
 
+/// What the listing program does write.
+fn program_run(input: &[u8]) -> String {
+    let mut program = Command::new("target/bin/list").stdin(Stdio::piped()).stdout(Stdio::piped()).spawn().expect("the listing program");
+    program.stdin.take().unwrap().write_all(input).expect("its input");
+    String::from_utf8(program.wait_with_output().expect("its output").stdout).expect("text")
+}
+
+/// An input of the listing program: digits and line feeds, blanks and other bytes.
+fn random_input(r: &mut Random) -> Vec<u8> {
+    let length = r.below(6);
+    let byte = |r: &mut Random| match r.below(8) {
+        0..=4 => b'0' + r.below(10) as u8,
+        5 => b'\n',
+        6 => b" -+\r\t\0"[r.below(6) as usize],
+        _ => r.below(256) as u8,
+    };
+    let mut input: Vec<u8> = (0..length).map(|_| byte(r)).collect();
+    if r.below(2) == 0 {
+        input.push(b'\n');
+    }
+    input
+}
+
+/// Runs the listing program on no bytes, every byte, every byte before a line feed and behind a digit, every two digits with a line feed, and
+/// random inputs, but for those that ask for a genus above 14. No bytes, listings and refusals 3 and 10 are met.
+fn runs(n: u64, words: &Words, r: &mut Random) -> Kind {
+    let mut kind = Kind::new("the listing program, by runs of it");
+    let mut lists = words.lists.clone();
+    while lists.len() <= 20 {
+        lists.push(lists[lists.len() - 1].iter().flat_map(|&w| children(w)).collect());
+    }
+    let bytes = (0..=255).flat_map(|byte| [vec![byte], vec![byte, b'\n'], vec![b'3', byte]]);
+    let numbers = (0..100).map(|n| format!("{n:02}\n").into_bytes());
+    let others: Vec<Vec<u8>> = (0..n).map(|_| random_input(r)).collect();
+    let mut met = [0u64; 4];
+    for input in std::iter::once(vec![]).chain(bytes).chain(numbers).chain(others) {
+        let asked = asked_genus(&input);
+        if asked.is_ok_and(|genus| genus > 14) {
+            continue;
+        }
+        kind.same(program_run(&input), program_text(&input, &lists), &|| format!("{input:?}"));
+        met[if input.is_empty() { 0 } else { asked.map_or_else(|number| 1 + (number == 10) as usize, |_| 3) }] += 1;
+    }
+    assert!(met.iter().all(|&q| q > n / 100), "each answer is met: {met:?}");
+    kind
+}
+
 fn main() {
     let seed = std::env::args().nth(1).map_or(20261115, |s| s.parse().expect("a seed is a number"));
     let mut r = Random(seed | 1);
@@ -2066,6 +2147,7 @@ fn main() {
     kinds.push(small_openings());
     kinds.push(openings(60_000, &words, &mut r));
     kinds.extend(jobs(&words, &mut r));
+    kinds.push(runs(2_000, &words, &mut r));
     println!("seed {seed}");
     for kind in &kinds {
         println!("{:>9} calls of {}: {} differences", kind.calls, kind.name, kind.differences);
