@@ -18,7 +18,7 @@ use walk::WalkAnswer;
 use words::NumberAnswer;
 use words::Refusal;
 
-// What an input asks for: nothing, as it is refused, header lines alone, or the listing of a genus.
+// The answer to an input: refused, or what it asks for, header lines alone or the listing of a genus.
 pub enum RequestAnswer {
     Refused(Refusal),
     Headers,
