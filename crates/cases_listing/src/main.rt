@@ -1,6 +1,6 @@
 // Runs further cases of the listing: what the listing program writes for its input, which is empty here; header lines in lists that are too
-// short for them and in others; the requests of the program; and the listing of genus 0. What it prints is held to the stored file, which
-// was computed apart from the plain definitions.
+// short for them and in others; and what the program writes for other inputs. What it prints is held to the stored file, which was computed
+// apart from the plain definitions.
 use libc::STDIN_FILENO;
 use libc::STDOUT_FILENO;
 use listing::ListingAnswer;
@@ -19,13 +19,6 @@ fn field(n: u64) {
     io::print_decimal(STDOUT_FILENO, n);
 }
 
-// A blank and a number for each byte.
-fn bytes(list: &[u8]) {
-    for i in 0..list.len() {
-        field(wide(list[i]));
-    }
-}
-
 fn wide(x: u8) -> u64 {
     x as u64
 }
@@ -42,13 +35,13 @@ fn front(list: &[u8], n: usize) {
     }
 }
 
-// The first page of the listing of a genus, in a list of 64 places.
+// The first page of the listing of a genus, in a list of 200 places: the header, and at most six lines.
 fn show_listing(genus: u64) {
     let begun = listing::fresh(genus);
     let ListingAnswer::Given(start) = begun else {
         return;
     };
-    let mut out = [0u8; 64];
+    let mut out = [0u8; 200];
     let paged = listing::next_page(start, &mut out);
     let answer = paged.answer;
     if let PageAnswer::Given(page) = answer {
@@ -114,45 +107,36 @@ fn headers() {
     show_headers(&mut [7u8; 400]);
 }
 
-fn show_request(input: &[u8]) {
-    text(b"request");
-    bytes(input);
-    text(b":");
-    let asked = listing::request(input);
-    match asked {
-        RequestAnswer::Refused(r) => refusal(r),
-        RequestAnswer::Headers => text(b" headers"),
-        RequestAnswer::Listing(genus) => field(genus),
-    }
-    text(b"\n");
+// What the program writes for an input, which a line tells before it.
+fn show(input_told: &[u8], input: &[u8]) {
+    text(input_told);
+    text(b":\n");
+    show_text(input);
 }
 
-fn requests() {
-    show_request(b"");
-    show_request(b"3\n");
-    show_request(b"03\n");
-    show_request(b"32\n");
-    show_request(b"33\n");
-    show_request(b"00\n");
+fn listings() {
+    show(b"3 and a line feed", b"3\n");
+    show(b"03 and a line feed", b"03\n");
+    show(b"00 and a line feed", b"00\n");
+    show(b"32 and a line feed", b"32\n");
 }
 
-fn malformed_requests() {
-    show_request(b"3");
-    show_request(b"\n");
-    show_request(b"\n\n");
-    show_request(b"003\n");
-    show_request(b"3\n\n");
-    show_request(b"3 \n");
-    show_request(b"-1\n");
-    show_request(b"a\n");
-    show_request(b"3\r\n");
+fn refused_inputs() {
+    show(b"33 and a line feed", b"33\n");
+    show(b"a line feed", b"\n");
+    show(b"two line feeds", b"\n\n");
+    show(b"3", b"3");
+    show(b"003 and a line feed", b"003\n");
+    show(b"3 and two line feeds", b"3\n\n");
+    show(b"3, a blank and a line feed", b"3 \n");
+    show(b"-1 and a line feed", b"-1\n");
+    show(b"a and a line feed", b"a\n");
+    show(b"3, a carriage return and a line feed", b"3\r\n");
 }
 
 fn main() {
     show_input();
     headers();
-    requests();
-    malformed_requests();
-    show_text(b"\n");
-    show_text(b"00\n");
+    listings();
+    refused_inputs();
 }
