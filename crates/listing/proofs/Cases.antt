@@ -3,38 +3,31 @@ use Prim.Native.Nat.{ℕ}
 use mathlib.Core.Path.{_≡_, refl, ap}
 use mathlib.Core.List.{List, [], _∷_, _++_, map}
 use native.Mathlib.Omega.{arith}
-use lib.ListN.{length, getD}
+use lib.ListN.{length}
 use Rattle.words.specs.Lists.{none, run, keep, keepIf, every, joined, lastOr}
 use Rattle.words.specs.Words.{bit, setOf, gaps, largestGap, conductor, reportedConductor}
 use Rattle.words.specs.Elements.{multiplicity}
 use Rattle.words.specs.Answers.{refused, given}
-use Rattle.words.proofs.Cases.{known-lists, known-list}
+use Rattle.words.proofs.Cases.{known-list}
 use Rattle.listing.specs.Decimal.{digits, decimal, isDigit, valueAfter}
 use Rattle.listing.specs.Text.{field, header, headerOf, lineOf, listingOf, headersTo, refusalLine}
 use Rattle.listing.specs.Request.{headersAlone, listingFor, wellFormed, requestOf, answerText, textOf}
 
--- the header lines of genus 0 to 8:
+-- the header lines of genus 0 to 4:
 --     genus 0 count 1
 --     genus 1 count 1
 --     genus 2 count 2
 --     genus 3 count 4
 --     genus 4 count 7
---     genus 5 count 12
---     genus 6 count 23
---     genus 7 count 39
---     genus 8 count 67
-pub known-headers : headersTo 8
+pub known-headers : headersTo 4
     ≡ (103 ∷ 101 ∷ 110 ∷ 117 ∷ 115 ∷ 32 ∷ 48 ∷ 32 ∷ 99 ∷ 111 ∷ 117 ∷ 110 ∷ 116 ∷ 32 ∷ 49 ∷ 10 ∷ [])
     ++ (103 ∷ 101 ∷ 110 ∷ 117 ∷ 115 ∷ 32 ∷ 49 ∷ 32 ∷ 99 ∷ 111 ∷ 117 ∷ 110 ∷ 116 ∷ 32 ∷ 49 ∷ 10 ∷ [])
     ++ (103 ∷ 101 ∷ 110 ∷ 117 ∷ 115 ∷ 32 ∷ 50 ∷ 32 ∷ 99 ∷ 111 ∷ 117 ∷ 110 ∷ 116 ∷ 32 ∷ 50 ∷ 10 ∷ [])
     ++ (103 ∷ 101 ∷ 110 ∷ 117 ∷ 115 ∷ 32 ∷ 51 ∷ 32 ∷ 99 ∷ 111 ∷ 117 ∷ 110 ∷ 116 ∷ 32 ∷ 52 ∷ 10 ∷ [])
     ++ (103 ∷ 101 ∷ 110 ∷ 117 ∷ 115 ∷ 32 ∷ 52 ∷ 32 ∷ 99 ∷ 111 ∷ 117 ∷ 110 ∷ 116 ∷ 32 ∷ 55 ∷ 10 ∷ [])
-    ++ (103 ∷ 101 ∷ 110 ∷ 117 ∷ 115 ∷ 32 ∷ 53 ∷ 32 ∷ 99 ∷ 111 ∷ 117 ∷ 110 ∷ 116 ∷ 32 ∷ 49 ∷ 50 ∷ 10 ∷ [])
-    ++ (103 ∷ 101 ∷ 110 ∷ 117 ∷ 115 ∷ 32 ∷ 54 ∷ 32 ∷ 99 ∷ 111 ∷ 117 ∷ 110 ∷ 116 ∷ 32 ∷ 50 ∷ 51 ∷ 10 ∷ [])
-    ++ (103 ∷ 101 ∷ 110 ∷ 117 ∷ 115 ∷ 32 ∷ 55 ∷ 32 ∷ 99 ∷ 111 ∷ 117 ∷ 110 ∷ 116 ∷ 32 ∷ 51 ∷ 57 ∷ 10 ∷ [])
-    ++ (103 ∷ 101 ∷ 110 ∷ 117 ∷ 115 ∷ 32 ∷ 56 ∷ 32 ∷ 99 ∷ 111 ∷ 117 ∷ 110 ∷ 116 ∷ 32 ∷ 54 ∷ 55 ∷ 10 ∷ [])
 unfolding run joined digits decimal field header headerOf headersTo
-known-headers = ap (λ (counts : List ℕ). joined (λ g. header g (getD counts g 0)) (run 0 9)) (known-lists .1)
+known-headers =
+    rw (known-list 0 (omega arith), known-list 1 (omega arith), known-list 2 (omega arith), known-list 3 (omega arith), known-list 4 (omega arith)) refl
 
 -- the line of the word 0, which has no gap: "0 0 1"
 pub line-zero : lineOf 0 ≡ 48 ∷ 32 ∷ 48 ∷ 32 ∷ 49 ∷ 10 ∷ []

@@ -240,7 +240,7 @@ fn put_headers(out: &mut [u8]) -> usize
 }
 
 // Writes the header lines of genus 0 to 20 to the front of a list, and gives their length. Refused in a list that does not hold all of them:
-// then nothing is written.
+// then nothing is written, so that they are made in a list of their own first.
 pub fn headers(out: &mut [u8]) -> NumberAnswer
     ensures { λ r. ⌜ listed r (now (out .exit)) ≡ headersOf (now (out .entry)) ⌝ }
 {

@@ -1,4 +1,4 @@
--- `listing::headers` meets its contract: the lines are made in a list of its own first, so that their length is known. Assumes nothing.
+-- `listing::headers` meets its contract: the lines are made in a list of their own first, so that their length is known. Assumes nothing.
 use Prim.Native.Nat.{ℕ}
 use mathlib.Core.Path.{_≡_, sym, ap, ap₂, _∙_}
 use mathlib.Core.List.{List}
