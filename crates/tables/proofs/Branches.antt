@@ -28,10 +28,11 @@ use Rattle.tables.proofs.Nodes.{node-child, first-row-generators}
 
 -- ---- the lowest of some offsets
 
--- at is the lowest of the offsets in bits, and rest has the others
+-- at is the lowest of the offsets in bits, and rest has the others; the difference is that one bit
 pub record TakenOff (bits at rest : ℕ) : Type 0 where
   pub fewer : rest < bits
   pub first : positions bits ≡ at ∷ positions rest
+  pub value : bits - rest ≡ 2 ^ at
 
 module _ (bits : ℕ) (some : 0 < bits) (fits : bits < 2 ^ 64) where
   -- it is the lowest standing bit
@@ -39,17 +40,16 @@ module _ (bits : ℕ) (some : 0 < bits) (fits : bits < 2 ^ 64) where
   unfolding lowestOffset
   lowest-trailing = ap (λ (l : List ℕ). getD l 0 64) (positions-step bits some fits)
 
-  -- it stands, among the 64
-  pub lowest-stands : (lowestOffset bits < 64) × (2 ^ lowestOffset bits ≤ bits)
-  lowest-stands =
-      let low = trailing-lt 64 bits some fits in
-      rw lowest-trailing (low, bit-cleared bits _ (trailing-stands 64 bits low) .0)
+  -- it stands
+  lowest-stands : 2 ^ lowestOffset bits ≤ bits
+  lowest-stands = rw lowest-trailing (bit-cleared bits _ (trailing-stands 64 bits (trailing-lt 64 bits some fits)) .0)
 
   -- without it, the others are left
   pub taken-off : {at rest : ℕ} → (at ≡ lowestOffset bits) × (rest ≡ bits - 2 ^ lowestOffset bits) → TakenOff bits at rest
   taken-off {at} {rest} (e, f) = record {
-    fewer = omega (arith, pow-pos (lowestOffset bits), lowest-stands .1);
+    fewer = omega (arith, pow-pos (lowestOffset bits), lowest-stands);
     first = positions-step bits some fits ∙ rw (e, f, lowest-trailing);
+    value = rw (e, f) (omega (arith, lowest-stands));
   }
 
 -- the others are above the lowest

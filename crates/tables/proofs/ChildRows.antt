@@ -116,12 +116,12 @@ module _ (w d : ℕ) (fits : w < 2 ^ 64) where
   kept-length : length (map kept (run 0 c)) ≡ c
   kept-length = length-map (run 0 c) kept ∙ length-run 0 c
 
-  -- from d on they are the bits of the raked table
-  kept-raked : (p : ℕ) → d ≤ p → getD (map kept (run 0 c)) p false ≡ bit (raked w (seedTable w) d) p
-  kept-raked p h = elim (decLe c p) [
+  -- they are the bits of the raked table
+  kept-raked : (p : ℕ) → getD (map kept (run 0 c)) p false ≡ bit (raked w (seedTable w) d) p
+  kept-raked p = elim (decLe c p) [
     | yes k ↦ List·getD-eq-default (map kept (run 0 c)) false (omega (arith, kept-length)) ∙ sym (raked-past w (seedTable w) d c p (table-lt w fits) k)
     | no k ↦ getD-map-run kept false 0 c p (lt-of-not-le k) ∙ ap kept (zero-add p)
-        ∙ sym (raked-bit w (seedTable w) d p h ∙ rw (table-bit w fits p (lt-of-not-le k)))
+        ∙ sym (raked-bit w (seedTable w) d p ∙ rw (table-bit w fits p (lt-of-not-le k)))
   ]
 
   -- the child's rows before their last three bits are set
@@ -138,7 +138,7 @@ module _ (w d : ℕ) (fits : w < 2 ^ 64) where
   unset-entry : (l : ℕ) → getD unset l false ≡ bit (raked w (seedTable w) d) (d + 1 + l)
   unset-entry l =
       padded-entry (c + d + 1) (drop (d + 1) (struckBits w d)) l ∙ ap (λ (b : List Bool). getD b l false) struck-bits
-      ∙ getD-drop (d + 1) (map kept (run 0 c)) l false ∙ kept-raked (d + 1 + l) (omega arith)
+      ∙ getD-drop (d + 1) (map kept (run 0 c)) l false ∙ kept-raked (d + 1 + l)
 
   module _ (room : conductor w + d ≤ 64) (nonzero : w ≢ 0) where
     -- three and more

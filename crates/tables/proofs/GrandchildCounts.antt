@@ -32,7 +32,7 @@ use Rattle.words.proofs.First.{first-of-genus, first-conductor, first-multiplic
 use Rattle.words.proofs.GapLists.{gap-lists-unique, extensions-all, extensions-count}
 use Rattle.tables.specs.Seeds.{orderOneSeed}
 use Rattle.tables.specs.Nodes.{nodeOf, firstRow, secondRow}
-use Rattle.tables.specs.Grandchildren.{grandchildCount, pairs, countByGenerators, grandchildrenAt}
+use Rattle.tables.specs.Grandchildren.{grandchildCount, pairs, countByGenerators, countByRows, grandchildrenAt}
 use Rattle.tables.specs.Answers.{grandchildrenOf}
 use Rattle.tables.specs.declared.Node.{Node}
 use Rattle.tables.proofs.SecondRow.{second-row-bit}
@@ -115,8 +115,8 @@ module _ (w : ℕ) (fits : w < 2 ^ 64) (c : closed w ≡ true) (two : 2 ≤ cond
         ∙ positions-ones (bitAnd row next) (lt-of-le-of-lt (and-le-l row next) (first-row-fits w fits c few))
 
     -- so that rows 0 and 1 tell that number
-    pub grandchildren-by-rows : countByGenerators w ≡ pairs (ones (firstRow (nodeOf w))) + ones (bitAnd (firstRow (nodeOf w)) (secondRow (nodeOf w)))
-    unfolding countByGenerators
+    pub grandchildren-by-rows : countByGenerators w ≡ countByRows (nodeOf w)
+    unfolding countByGenerators countByRows
     grandchildren-by-rows = ap₂ (λ (a b : ℕ). pairs a + b) (first-row-count w fits c few) both-count
 
 -- ---- where k is 1
@@ -147,6 +147,11 @@ module _ (w : ℕ) (fits : w < 2 ^ 64) (c : closed w ≡ true) (ordinary : condu
 -- ---- as it is read off a node, by the cases of the definition
 
 module _ (n : Node) where
+  -- with an empty row 0 there is none
+  pub no-generators : firstRow n ≡ 0 → countByRows n ≡ 0
+  unfolding countByRows pairs ones
+  no-generators e = ap (λ (row : ℕ). pairs (ones row) + ones (bitAnd row (secondRow n))) e
+
   pub at-zero : n .word ≡ 0 → grandchildrenAt n ≡ 2
   unfolding grandchildrenAt
   at-zero e = simp (eq-eqb (n .word) 0 e)
@@ -155,8 +160,7 @@ module _ (n : Node) where
   unfolding grandchildrenAt
   at-first e l = simp (ne-eqb (n .word) 0 e, lt-ltb (n .conductor - genus (n .word)) 2 l)
 
-  pub at-rows : n .word ≢ 0 → 2 ≤ n .conductor - genus (n .word)
-      → grandchildrenAt n ≡ pairs (ones (firstRow n)) + ones (bitAnd (firstRow n) (secondRow n))
+  pub at-rows : n .word ≢ 0 → 2 ≤ n .conductor - genus (n .word) → grandchildrenAt n ≡ countByRows n
   unfolding grandchildrenAt
   at-rows e l = simp (ne-eqb (n .word) 0 e, le-ltb (n .conductor - genus (n .word)) 2 l)
 

@@ -11,6 +11,8 @@ use Rattle.words.specs.Elements.{rightGenerators}
 use Rattle.words.specs.Answers.{Accepted}
 use Rattle.words.proofs.Words.{genus-zero, closed-zero}
 use Rattle.words.proofs.StandingBits.{positions-ones}
+use Rattle.words.proofs.Elements.{conductor-pos}
+use Rattle.words.proofs.Closure.{conductor-le-64}
 use Rattle.tables.specs.Nodes.{nodeOf, firstRow}
 use Rattle.tables.specs.Levels.{NodeWithLevels}
 use Rattle.tables.specs.declared.Node.{Node}
@@ -35,6 +37,12 @@ node-accepted r n at = record { closed = at .levels .closed; few = omega (arith,
 pub node-conductor : (r : ℕ) (n : Node) → NodeWithLevels r n → n .conductor ≡ conductor (n .word)
 unfolding nodeOf
 node-conductor r n at = ap (λ (m : Node). m .conductor) (at .node)
+
+-- which is from 1 to 64
+pub conductor-within : (r : ℕ) (n : Node) → NodeWithLevels r n → (1 ≤ n .conductor) × (n .conductor ≤ 64)
+conductor-within r n at =
+    let same = node-conductor r n at in
+    (omega (arith, conductor-pos (n .word)), omega (arith, conductor-le-64 (n .word) (at .levels .fits) (at .levels .closed) (omega (arith, at .levels .few))))
 
 -- and the 1s of its row 0 are as many as its word's right generators
 pub node-generators : (r : ℕ) (n : Node) → NodeWithLevels r n → ones (firstRow n) ≡ length (rightGenerators (n .word))

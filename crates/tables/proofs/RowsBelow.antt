@@ -6,21 +6,26 @@ use mathlib.Core.List.{map, map-map, List·Memᴰ, Memᴰ·map}
 use native.Mathlib.Omega.{arith}
 use native.Mathlib.Nat.{lt-of-not-le}
 use lib.Bits.{bitAnd}
+use lib.ListN.{length}
 use Rattle.words.specs.Lists.{joined}
 use Rattle.words.specs.Words.{genus, conductor, childWord}
 use Rattle.words.specs.Positions.{positions}
 use Rattle.words.specs.Elements.{multiplicity, rightGenerators}
+use Rattle.words.specs.GenusList.{descendantCount}
 use Rattle.words.specs.Children.{Child}
 use Rattle.words.specs.Tree.{leaves}
 use Rattle.words.proofs.Lists.{joined-cong, joined-each}
 use Rattle.words.proofs.Elements.{ordinary-conductor}
 use Rattle.words.proofs.Tree.{multiplicity-stays}
+use Rattle.words.proofs.Leaves.{descendants-leaves}
 use Rattle.tables.specs.Nodes.{nodeOf, firstRow, secondRow, rowOfChild}
+use Rattle.tables.specs.Grandchildren.{countByRows}
 use Rattle.tables.specs.Levels.{Levels}
 use Rattle.tables.specs.Branches.{branches, Offsets}
 use Rattle.tables.proofs.Nodes.{first-row-generators}
 use Rattle.tables.proofs.Branches.{child-of, child-levels, leaf-below, leaves-row, offsets-row}
 use Rattle.tables.proofs.ChildFirstRow.{child-first-row}
+use Rattle.tables.proofs.GrandchildCounts.{grandchildren-by-generators, grandchildren-by-rows, grandchildren-descendants}
 
 module _ (w : ℕ) (at : Levels 2 w) (later : multiplicity w < conductor w) where
   -- row 0, and row 0 of the child at an offset
@@ -49,8 +54,10 @@ module _ (w : ℕ) (at : Levels 2 w) (later : multiplicity w < conductor w) wher
     pub child-levels-there : Levels 1 (childWord w (conductor w + d))
     child-levels-there = child-levels 1 w at (offsets d i)
 
-    generators : rightGenerators v ≡ map (λ j. conductor v + j) (positions (childRow d))
-    generators =
+    -- its generators not below its conductor, by its row 0
+    pub generators-there : rightGenerators (childWord w (conductor w + d))
+        ≡ map (λ j. conductor (childWord w (conductor w + d)) + j) (positions (childRow d))
+    generators-there =
         first-row-generators v (child-levels-there .fits) (child-levels-there .closed) (omega (arith, child-levels-there .few))
         ∙ ap (λ (r : ℕ). map (λ j. conductor v + j) (positions r)) (child-first-row w (at .fits) two d (at .closed) (omega (arith, at .few)) (offsets d i))
 
@@ -58,12 +65,12 @@ module _ (w : ℕ) (at : Levels 2 w) (later : multiplicity w < conductor w) wher
     words-below : leaves 1 v ≡ map (λ j. childWord v (conductor v + j)) (positions (childRow d))
     unfolding leaves
     words-below =
-        joined-each (childWord v) (rightGenerators v) ∙ ap (map (childWord v)) generators ∙ map-map (childWord v) (λ j. conductor v + j) (positions (childRow d))
+        joined-each (childWord v) (rightGenerators v) ∙ ap (map (childWord v)) generators-there ∙ map-map (childWord v) (λ j. conductor v + j) (positions (childRow d))
 
     module _ (j : ℕ) (k : List·Memᴰ j (positions (childRow d))) where
       -- each is a child of it
       pub grandchild-there : Child (childWord w (conductor w + d)) (conductor (childWord w (conductor w + d)) + j)
-      grandchild-there = child-of 0 v child-levels-there (subst (List·Memᴰ (conductor v + j)) (sym generators) (Memᴰ·map (λ j. conductor v + j) k))
+      grandchild-there = child-of 0 v child-levels-there (subst (List·Memᴰ (conductor v + j)) (sym generators-there) (Memᴰ·map (λ j. conductor v + j) k))
 
       -- a word two levels below w
       pub leaf-there : List·Memᴰ (childWord (childWord w (conductor w + d)) (conductor (childWord w (conductor w + d)) + j)) (leaves 1 (childWord w (conductor w + d)))
@@ -74,6 +81,13 @@ module _ (w : ℕ) (at : Levels 2 w) (later : multiplicity w < conductor w) wher
       multiplicity-there =
           let (l, split, fits) = leaf-below 1 w at (offsets d i) leaf-there in
           multiplicity-stays w (childWord v (conductor v + j)) (conductor w + d) l (at .fits) split fits (omega arith)
+
+  -- so that the two rows tell how many words there are two levels below w
+  pub rows-count : countByRows (nodeOf w) ≡ length (leaves 2 w)
+  unfolding descendantCount
+  rows-count =
+      sym (grandchildren-by-rows w (at .fits) (at .closed) two (omega (arith, at .few))) ∙ sym (grandchildren-by-generators w (at .fits) (at .closed) two)
+      ∙ grandchildren-descendants w (omega (arith, at .few)) ∙ ap length (descendants-leaves 2 w (at .fits) (at .closed) (at .few))
 
   -- the words two levels below w
   pub leaves-by-rows : leaves 2 w

@@ -27,10 +27,14 @@ pairs n = n * (n - 1) / 2
 unfoldable pub countByGenerators : ℕ → ℕ
 countByGenerators w = pairs (length (rightGenerators w)) + length (keep (orderOneSeed w) (rightGenerators w))
 
+-- the same as rows 0 and 1 of a node's table tell it
+unfoldable pub countByRows : Node → ℕ
+countByRows n = pairs (ones (firstRow n)) + ones (bitAnd (firstRow n) (secondRow n))
+
 -- the number of grandchildren as it is read off a node: for the word 0; where k, the conductor less the genus, is below 2, by the multiplicity;
 -- else by rows 0 and 1
 unfoldable pub grandchildrenAt : Node → ℕ
 grandchildrenAt n =
     cond (eqb (n .word) 0) 2
     (cond (ltb (n .conductor - genus (n .word)) 2) (pairs (multiplicity (n .word)) + 3)
-    (pairs (ones (firstRow n)) + ones (bitAnd (firstRow n) (secondRow n))))
+    (countByRows n))

@@ -1,12 +1,12 @@
 // Seed tables: a semigroup under way, which carries its word, table and conductor and gives its own child, and the calls on words.
-ghost use Prim.Native.Nat.{_-_, _^_, _≤_};
+ghost use Prim.Native.Nat.{_-_, _^_, _≤_, _<_};
 ghost use mathlib.Core.Path.{_≡_};
 ghost use lib.Count.{ones};
 ghost use Rattle.words.specs.Answers.{Accepted, answered};
 ghost use Rattle.tables.specs.Child.{raked};
 ghost use Rattle.tables.specs.Nodes.{nodeOf, childNode, firstRow, secondRow, lowestOffset, nextOffset};
 ghost use Rattle.tables.specs.Levels.{NodeWithLevels};
-ghost use Rattle.tables.specs.Grandchildren.{pairs, grandchildrenAt};
+ghost use Rattle.tables.specs.Grandchildren.{pairs, countByRows, grandchildrenAt};
 ghost use Rattle.tables.specs.Answers.{noded, nodeAnswer, tabled, tableOf, childOf, grandchildrenOf};
 use words::Element;
 use words::Index;
@@ -40,17 +40,22 @@ pub enum TableAnswer {
     Given(Table),
 }
 
-// The table with d rakings: each moves the word up by one place and keeps of the table what stands there too.
+// The table with d rakings: what it has in common with the word moved up by 1, by 2, .. and by d. These are had by doubling: `moved` is the
+// word moved up by 1 to `done`, all anded.
 fn rake(word: u64, table: u64, d: u64) -> u64
+    requires { ⌜ d < 64 ⌝ }
     ensures { λ r. ⌜ r ≡ raked word table d ⌝ }
 {
-    let mut moved = word;
-    let mut s = table;
-    for _ in 0..d {
-        moved = moved << 1;
-        s = s & moved;
+    if d == 0 {
+        return table;
     }
-    s
+    let mut moved = word << 1;
+    let mut done = 1;
+    while done < d - done {
+        moved = moved & (moved << done);
+        done = done + done;
+    }
+    table & moved & (moved << (d - done))
 }
 
 // The number of pairs among n.
@@ -130,8 +135,20 @@ impl Node {
         (self.table >> m) & (later ^ (later + 1))
     }
 
-    // The number of grandchildren, from rows 0 and 1 alone: where k is at least 2, each two generators not below the conductor make one, and
-    // each of them that is an order-one seed too makes one more. The word 0 and the words with k below 2 have no row 1.
+    // The number of grandchildren by rows 0 and 1 alone, where k is at least 2: each two generators not below the conductor make one, and each
+    // of them that is an order-one seed too makes one more.
+    pub fn grandchildren_by_rows(self) -> u64
+        ensures { λ r. ⌜ r ≡ countByRows self ⌝ }
+    {
+        let first = self.first_row();
+        if first == 0 {
+            return 0;
+        }
+        let both = first & self.second_row();
+        pairs_among(self.generators()) + u64::count_ones(both) as u64
+    }
+
+    // The number of grandchildren: the word 0 and the words with k below 2 have no row 1.
     pub fn grandchildren(self) -> u64
         ensures { λ r. ⌜ r ≡ grandchildrenAt self ⌝ }
     {
@@ -142,10 +159,7 @@ impl Node {
         if k.0 < 2 {
             return pairs_among(words::multiplicity_of(self.word)) + 3;
         }
-        let first = self.first_row();
-        let second = self.second_row();
-        let both = first & second;
-        pairs_among(self.generators()) + u64::count_ones(both) as u64
+        self.grandchildren_by_rows()
     }
 
     // The offset of the word's first gap not below the conductor.
@@ -186,7 +200,7 @@ pub fn lowest_of(bits: u64) -> Lowest
     let at = u64::trailing_zeros(bits) as u64;
     Lowest {
         at: Offset(at),
-        rest: bits - (1 << at),
+        rest: bits & (bits - 1),
     }
 }
 

@@ -1,10 +1,7 @@
 -- `tables::Node::grandchildren` meets its contract. Assumes nothing.
-use Prim.Native.Nat.{ℕ, _+_, _≤_}
-use mathlib.Core.Path.{sym, ap, ap₂, _∙_}
+use Prim.Native.Nat.{_≤_}
+use mathlib.Core.Path.{sym, ap, _∙_}
 use native.Mathlib.Omega.{arith}
-use native.Mathlib.Nat.{lt-of-le-of-lt}
-use lib.Bits.{bitAnd, and-le-l}
-use lib.Count.{ones, ones-le}
 use borrow.Author.Needs.{needs}
 use Rattle.words.proofs.Operations.{multiplicity-le}
 use Rattle.tables.specs.Grandchildren.{pairs}
@@ -33,13 +30,10 @@ returns-2 c =
 -- by rows 0 and 1
 returns-3 : tie.Need-returns-3
 returns-3 c =
-    let row = c .before .before .before in
-    let low = row .before in
+    let low = c .before in
     let told = low .before .before in
-    let n = told .before .before .before .before .args .self in
-    ap₂ _+_ (c .pairs-among2 .ensures ∙ ap pairs (c .before .generators .ensures))
-    (ap₂ (λ (r s : ℕ). ones (bitAnd r s)) (row .first-row .ensures) (c .before .before .second-row .ensures))
-    ∙ sym (at-rows n (told .before .before .if1 .left) (omega (arith, low .if2 .left, told .of-conductor .ensures, told .before .genus-of .ensures)))
+    c .grandchildren-by-rows .ensures
+    ∙ sym (at-rows (told .before .before .before .before .args .self) (told .before .before .if1 .left) (omega (arith, low .if2 .left, told .of-conductor .ensures, told .before .genus-of .ensures)))
 
 -- a multiplicity is at most 65
 few : (c : tie.After-multiplicity-of) → c .multiplicity-of .result ≤ 65
@@ -50,25 +44,6 @@ pairs-among-requires c κs = few c
 
 add-result : tie.Need-add-result
 add-result c = omega (arith, c .pairs-among .ensures, pairs-bound _ (few (c .before)) .1)
-
--- row 0 has at most 64 offsets
-few-first : (c : tie.After-generators) → c .generators .result ≤ 65
-few-first c =
-    let row = c .before .before in
-    omega (arith, c .generators .ensures, ap ones (row .first-row .ensures), ones-le 64 (row .first-row .result) (omega arith))
-
--- and so have both rows together
-few-both : (c : tie.After-second-row) → ones (bitAnd (c .before .first-row .result) (c .second-row .result)) ≤ 64
-few-both c = ones-le 64 _ (lt-of-le-of-lt (and-le-l (c .before .first-row .result) (c .second-row .result)) (omega arith))
-
-pairs-among-requires-2 : tie.Need-pairs-among-requires-2
-pairs-among-requires-2 c κs = few-first c
-
-cast-result : tie.Need-cast-result
-cast-result c = omega (arith, few-both (c .before .before))
-
-add-result-2 : tie.Need-add-result-2
-add-result-2 c = omega (arith, few-both (c .before .before), c .pairs-among2 .ensures, pairs-bound _ (few-first (c .before)) .1)
 
 pub grandchildren-spec : {M : Type 1} → statement M
 grandchildren-spec =
@@ -82,9 +57,4 @@ grandchildren-spec =
     add-result
     returns-2
     (λ c κs. search needs)
-    (λ c κs. search needs)
-    (λ c κs. search needs)
-    pairs-among-requires-2
-    cast-result
-    add-result-2
     returns-3)
