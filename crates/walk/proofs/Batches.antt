@@ -1,12 +1,13 @@
 -- What a batch answers by the questions, and that the words put into the lent list make its ending. Assumes nothing.
-use Prim.Native.Nat.{ℕ, _^_, _≤_, _<_, min}
+use Prim.Native.Nat.{ℕ, _+_, _^_, _≤_, _<_, min}
 use mathlib.Core.Path.{_≡_, refl, sym, _∙_, ap, subst}
-use mathlib.Core.Bool.{Bool, true, false, not, cond, _&&_, Bool·not-not}
-use mathlib.Core.List.{List, List·Memᴰ}
+use mathlib.Core.Bool.{Bool, true, false, not, cond, _&&_}
+use mathlib.Core.List.{List, [], _∷_, _++_, List·Memᴰ}
 use native.Mathlib.Nat.{min-zero}
-use lib.Dec.{leb, eqb}
-use lib.ListN.{length}
-use borrow.Author.Tests.{le-leb, lt-leb, eqb-true}
+use native.Mathlib.Omega.{arith}
+use lib.Dec.{leb, ltb, eqb}
+use lib.ListN.{length, take, drop, length-append, length-take, length-drop}
+use borrow.Author.Tests.{le-leb, lt-leb, le-ltb, lt-ltb, eqb-true}
 use Rattle.words.specs.Lists.{none, onFrom}
 use Rattle.words.specs.Words.{genus, closed}
 use Rattle.words.specs.Elements.{multiplicity}
@@ -21,9 +22,9 @@ use Rattle.windows.proofs.Windows.{window-mem, window-on-from}
 use Rattle.walk.specs.declared.Walk.{Walk}
 use Rattle.walk.specs.Walks.{rest, standing, inOrder, Ending, unmoved, batchOf}
 use Rattle.walk.specs.Cut.{fromMultiplicity}
-use Rattle.walk.specs.Lending.{Lent, unwritten, putAll}
+use Rattle.walk.specs.Lending.{Lent, upTo, putAll}
 use Rattle.walk.proofs.Walks.{in-order-mem, batch-moves}
-use Rattle.walk.proofs.Lending.{put-all}
+use Rattle.walk.proofs.Lending.{leaving, put-all}
 
 -- ---- question 4
 
@@ -64,13 +65,26 @@ walk-leaf w fits small ordered going =
 
 -- ---- endings
 
--- the ending of a batch with the walk w, with what was told of the lent list
+-- the ending of a batch with the walk w, with what was told of the lent list: is there a word without room, and how many were written
+abbrev pub more : Lent → Bool
+more t = ltb (length (t .0)) (t .1 .at)
+
+abbrev pub written : Lent → ℕ
+written t = cond (more t) (length (t .0)) (t .1 .at)
+
 abbrev pub put-ending : Walk → Lent → Ending
 put-ending w t = record {
-  answer = given record { count = t .1 .written; finished = not (t .1 .more) };
-  walk = record { genus = w .genus; word = t .1 .next; lowest = w .lowest; highest = w .highest; finished = not (t .1 .more) };
+  answer = given record { count = written t; finished = not (more t) };
+  walk = record { genus = w .genus; word = t .1 .next; lowest = w .lowest; highest = w .highest; finished = not (more t) };
   list = t .0;
 }
+
+-- n words were written into a list, and those of r are left, if any because it is full
+put-leaves : (w : Walk) (r o : List ℕ) (n : ℕ) → n ≤ length o → (0 < length r → n ≡ length o)
+    → put-ending w (o, leaving n r) ≡ record { answer = given record { count = n; finished = none r }; walk = standing (w .genus) (w .lowest) (w .highest) r; list = o }
+unfolding standing none
+put-leaves w [] o n room full = rw (le-ltb (length o) n room)
+put-leaves w (x ∷ r) o n room full = let at-end = full (omega arith) in rw (lt-ltb (length o) (n + 1) (omega arith), at-end)
 
 module _ (w : Walk) (lent : List ℕ) where
   pub batch-genus : 32 < w .genus → batchOf w lent ≡ unmoved 3 w lent
@@ -92,10 +106,13 @@ module _ (w : Walk) (lent : List ℕ) where
 
       -- those from the walk's on that have at least its lowest multiplicity are put into the lent list
       pub batch-put : w .word < 2 ^ 64 → w .finished ≡ false → {t : Lent}
-          → t ≡ putAll (fromMultiplicity (w .lowest) (onFrom (w .word) (leaves (w .genus) 0))) (lent, unwritten) → batchOf w lent ≡ put-ending w t
+          → t ≡ putAll (fromMultiplicity (w .lowest) (onFrom (w .word) (leaves (w .genus) 0))) (lent, upTo 0) → batchOf w lent ≡ put-ending w t
       unfolding rest standing fromMultiplicity
       batch-put fits going e =
           let l : List ℕ = fromMultiplicity (w .lowest) (onFrom (w .word) (leaves (w .genus) 0)) in
+          let n : ℕ = min (length lent) (length l) in
+          let filled = length-append (take n l) (drop n lent) in
           batch-moves w lent small ordered
           ∙ rw (going, window-on-from (w .genus) (w .lowest) (w .highest) (w .word) (in-order-mem w fits ordered going), genus-list-leaves (w .genus) small)
-          (simp Bool·not-not at (ap (put-ending w) (sym (e ∙ put-all l lent (min (length lent) (length l)) refl))))
+          (sym (put-leaves w (drop n l) (take n l ++ drop n lent) n (omega (arith, length-take n l, length-drop n lent)) (λ some. omega (arith, length-take n l, length-drop n lent, length-drop n l))))
+          ∙ ap (put-ending w) (sym (e ∙ put-all l lent n refl))

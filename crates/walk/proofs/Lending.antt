@@ -1,73 +1,118 @@
 -- Words put into a lent list: one after the other, and what became of the list when all were put. Assumes nothing.
 use Prim.Native.Nat.{ℕ, zero, suc, _+_, _≤_, _<_, min}
-use mathlib.Core.Path.{_≡_, refl, ap, _∙_}
-use mathlib.Core.Bool.{true, false, not, cond}
+use mathlib.Core.Path.{_≡_, refl, sym, ap, _∙_}
+use mathlib.Core.Bool.{cond}
 use mathlib.Core.List.{List, [], _∷_, _++_, append-assoc, head?}
 use mathlib.Core.Option as O
 use native.Mathlib.Omega.{arith}
 use native.Mathlib.Nat.{add-zero, zero-add}
+use native.Mathlib.Decide.{decLt, ℕ-discrete}
 use native.Mathlib.Numerals.{add-one}
-use lib.ListN.{length, getD, take, drop, set, length-append}
+use lib.Dec.{ltb}
+use lib.ListN.{length, getD, take, drop, set, length-append, length-set}
 use lib.Seq.{set-append-seam}
-use borrow.Author.Tests.{lt-ltb, le-ltb}
+use borrow.Author.Tests.{lt-ltb, le-ltb, eq-eqb, ne-eqb}
 use Rattle.words.specs.Lists.{none}
-use Rattle.walk.specs.Lending.{Lent, unwritten, putOne, putAll}
+use Rattle.walk.specs.Lending.{Lent, upTo, putOne, putAll}
+use Rattle.walk.specs.declared.Filled.{Filled}
+
+-- ---- one word
 
 module _ (x : ℕ) (t : Lent) where
-  pub put-none : t .1 .more ≡ true → putOne x t ≡ t
+  pub put-room : t .1 .at < length (t .0) → putOne x t ≡ (set (t .0) (t .1 .at) x, upTo (t .1 .at + 1))
   unfolding putOne
-  put-none h = rw h
+  put-room h = rw (lt-ltb (t .1 .at) (length (t .0)) h)
 
-  pub put-room : t .1 .more ≡ false → t .1 .written < length (t .0)
-      → putOne x t ≡ (set (t .0) (t .1 .written) x, record { written = t .1 .written + 1; more = false; next = 0 })
+  pub put-full : t .1 .at ≡ length (t .0) → putOne x t ≡ (t .0, record { at = t .1 .at + 1; next = x })
   unfolding putOne
-  put-room h r = rw (h, lt-ltb (t .1 .written) (length (t .0)) r)
+  put-full h = rw (le-ltb (t .1 .at) (length (t .0)) (omega arith), eq-eqb (t .1 .at) (length (t .0)) h)
 
-  pub put-full : t .1 .more ≡ false → length (t .0) ≤ t .1 .written
-      → putOne x t ≡ (t .0, record { written = t .1 .written; more = true; next = x })
+  put-none : length (t .0) < t .1 .at → putOne x t ≡ t
   unfolding putOne
-  put-full h r = rw (h, le-ltb (t .1 .written) (length (t .0)) r)
+  put-none h = rw (le-ltb (t .1 .at) (length (t .0)) (omega arith), ne-eqb (t .1 .at) (length (t .0)) (λ e. omega arith))
 
-pub put-append : (a b : List ℕ) (t : Lent) → putAll (a ++ b) t ≡ putAll b (putAll a t)
+-- the list keeps its length, and while it has room no word found none
+record Kept (t u : Lent) : Type 0 where
+  same : length (u .0) ≡ length (t .0)
+  told : u .1 .at ≤ length (u .0) → u .1 .next ≡ 0
+
+kept-one : (x : ℕ) (t : Lent) → (t .1 .at ≤ length (t .0) → t .1 .next ≡ 0) → Kept t (putOne x t)
+kept-one x t h = elim (decLt (t .1 .at) (length (t .0))) [
+  | yes l ↦ rw (put-room x t l) record { same = length-set (t .0) (t .1 .at) x; told = λ k. refl }
+  | no l ↦ elim (ℕ-discrete (t .1 .at) (length (t .0))) [
+    | yes e ↦ rw (put-full x t e) record { same = refl; told = λ k. absurd (omega arith) }
+    | no e ↦ rw (put-none x t (omega arith)) record { same = refl; told = h }
+  ]
+]
+
+kept-all : (l : List ℕ) (t : Lent) → (t .1 .at ≤ length (t .0) → t .1 .next ≡ 0) → Kept t (putAll l t)
+unfolding putAll
+kept-all [] t h = record { same = refl; told = h }
+kept-all (x ∷ l) t h =
+    let first = kept-one x t h in
+    let others = kept-all l (putOne x t) (first .told) in
+    record { same = others .same ∙ first .same; told = others .told }
+
+-- ---- one list after the other
+
+put-append : (a b : List ℕ) (t : Lent) → putAll (a ++ b) t ≡ putAll b (putAll a t)
 unfolding putAll
 put-append [] b t = refl
 put-append (x ∷ a) b t = put-append a b (putOne x t)
 
 -- where a word found no room, nothing more is put
-pub put-more : (l : List ℕ) (t : Lent) → t .1 .more ≡ true → putAll l t ≡ t
+put-more : (l : List ℕ) (t : Lent) → length (t .0) < t .1 .at → putAll l t ≡ t
 unfolding putAll
 put-more [] t h = refl
 put-more (x ∷ l) t h = ap (putAll l) (put-none x t h) ∙ put-more l t h
 
+-- t is what became of the list when the words of a were put
+module _ (a b o : List ℕ) (at : ℕ) {t : Lent} (e : t ≡ putAll a (o, upTo at)) where
+  kept : Kept (o, upTo at) t
+  kept = rw e (kept-all a (o, upTo at) (λ h. refl))
+
+  -- where one of them found no room, those of b are not put
+  pub put-stops : length o < t .1 .at → putAll (a ++ b) (o, upTo at) ≡ t
+  put-stops h = put-append a b (o, upTo at) ∙ ap (putAll b) (sym e) ∙ put-more b t (omega (arith, kept .same))
+
+  -- else those of b follow
+  pub put-follows : t .1 .at ≤ length o → putAll (a ++ b) (o, upTo at) ≡ putAll b (t .0, upTo (t .1 .at))
+  put-follows h =
+      let told = kept .told (omega (arith, kept .same)) in
+      put-append a b (o, upTo at) ∙ ap (putAll b) (sym e) ∙ ap (λ (n : ℕ). putAll b (t .0, record { at = t .1 .at; next = n })) told
+
+-- ---- all of a list
+
+-- n words are written, and those of l are left: the first of them found no room
+abbrev pub leaving : ℕ → List ℕ → Filled
+leaving n l = cond (none l) (upTo n) record { at = n + 1; next = getD l 0 0 }
+
 -- after the words of p, n of those of l are put over the front of q, and then l or q is at its end
 put-after : (l p q : List ℕ) (n : ℕ) → n ≡ min (length q) (length l)
-    → putAll l (p ++ q, record { written = length p; more = false; next = 0 })
-    ≡ (p ++ (take n l ++ drop n q), record { written = length p + n; more = not (none (drop n l)); next = getD (drop n l) 0 0 })
+    → putAll l (p ++ q, upTo (length p)) ≡ (p ++ (take n l ++ drop n q), leaving (length p + n) (drop n l))
 unfolding putAll none
 put-after [] p q zero e = rw add-zero
 put-after [] p q (suc n) e = absurd (omega arith)
-put-after (x ∷ l) p [] zero e =
-    ap (putAll l) (put-full x _ refl (omega (arith, length-append p []))) ∙ put-more l _ refl ∙ rw add-zero
+put-after (x ∷ l) p [] zero e = ap (putAll l) (put-full x _ (omega (arith, length-append p []))) ∙ put-more l _ (omega (arith, length-append p [])) ∙ rw add-zero
 put-after (x ∷ l) p [] (suc n) e = absurd (omega arith)
 put-after (x ∷ l) p (y ∷ q) zero e = absurd (omega arith)
 put-after (x ∷ l) p (y ∷ q) (suc n) e =
     let longer : length (p ++ x ∷ []) ≡ suc (length p) = omega (arith, length-append p (x ∷ [])) in
     let sum : suc (length p) + n ≡ length p + suc n = omega arith in
     let next = put-after l (p ++ x ∷ []) q n (omega arith) in
-    ap (putAll l) (put-room x _ refl (omega (arith, length-append p (y ∷ q))))
+    ap (putAll l) (put-room x _ (omega (arith, length-append p (y ∷ q))))
     ∙ rw (set-append-seam, add-one) (rw (append-assoc p (x ∷ []) q, append-assoc p (x ∷ []) (take n l ++ drop n q), longer, sum) at next)
 
 -- all of l put into a list that was just lent
-pub put-all : (l o : List ℕ) (n : ℕ) → n ≡ min (length o) (length l)
-    → putAll l (o, unwritten) ≡ (take n l ++ drop n o, record { written = n; more = not (none (drop n l)); next = getD (drop n l) 0 0 })
+pub put-all : (l o : List ℕ) (n : ℕ) → n ≡ min (length o) (length l) → putAll l (o, upTo 0) ≡ (take n l ++ drop n o, leaving n (drop n l))
 put-all l o n e = rw zero-add at (put-after l [] o n e)
 
--- the word that found no room, or that there is none
+-- the word that found no room in a list without places, or that there is none
 abbrev pub without-room : Lent → O.Option ℕ
-without-room t = cond (t .1 .more) (O.some (t .1 .next)) O.none
+without-room t = cond (ltb 0 (t .1 .at)) (O.some (t .1 .next)) O.none
 
--- in a list without places it is the first word
-pub put-nowhere : (l : List ℕ) {t : Lent} → t ≡ putAll l ([], unwritten) → without-room t ≡ head? l
+-- it is the first word
+pub put-nowhere : (l : List ℕ) {t : Lent} → t ≡ putAll l ([], upTo 0) → without-room t ≡ head? l
 unfolding putAll
 put-nowhere [] e = ap without-room e
-put-nowhere (x ∷ l) e = ap without-room (e ∙ ap (putAll l) (put-full x ([], unwritten) refl (omega arith)) ∙ put-more l _ refl)
+put-nowhere (x ∷ l) e = ap without-room (e ∙ ap (putAll l) (put-full x ([], upTo 0) refl) ∙ put-more l _ (omega arith))

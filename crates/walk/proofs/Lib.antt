@@ -3,8 +3,9 @@ pub mod BranchCounts
 pub mod Resuming
 pub mod Cut
 pub mod Lending
-pub mod Measure
 pub mod Batches
 pub mod Counts
 pub mod Descendants
 pub mod Values
+pub mod NewGaps
+pub mod RowGaps

@@ -1,26 +1,24 @@
 -- Words put into a lent list, as far as there is room. Assumes nothing: these are definitions.
 use Prim.Native.Nat.{ℕ, _+_}
-use mathlib.Core.Bool.{true, false, cond}
+use mathlib.Core.Bool.{cond}
 use mathlib.Core.List.{List, [], _∷_}
-use lib.Dec.{ltb}
+use lib.Dec.{eqb, ltb}
 use lib.ListN.{length, set}
-use Rattle.walk.specs.declared.Emitted.{Emitted}
+use Rattle.walk.specs.declared.Filled.{Filled}
 
 -- the lent list, and what was told of it
 abbrev pub Lent : Type 0
-Lent = List ℕ × Emitted
+Lent = List ℕ × Filled
 
--- nothing written yet
-abbrev pub unwritten : Emitted
-unwritten = record { written = 0; more = false; next = 0 }
+-- the list is filled up to a place, and no word found no room
+abbrev pub upTo : ℕ → Filled
+upTo at = record { at = at; next = 0 }
 
--- x put after what is written, unless an earlier word found no room
+-- x put at the next place; where the list has none, x is the word that finds no room, and no later one is put
 unfoldable pub putOne : ℕ → Lent → Lent
 putOne x t =
-    cond (t .1 .more) t
-    (cond (ltb (t .1 .written) (length (t .0)))
-    (set (t .0) (t .1 .written) x, record { written = t .1 .written + 1; more = false; next = 0 })
-    (t .0, record { written = t .1 .written; more = true; next = x }))
+    cond (ltb (t .1 .at) (length (t .0))) (set (t .0) (t .1 .at) x, upTo (t .1 .at + 1))
+    (cond (eqb (t .1 .at) (length (t .0))) (t .0, record { at = t .1 .at + 1; next = x }) t)
 
 -- each of a list put
 unfoldable pub putAll : List ℕ → Lent → Lent

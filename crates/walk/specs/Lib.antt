@@ -2,3 +2,4 @@ pub mod Answers
 pub mod Walks
 pub mod Cut
 pub mod Lending
+pub mod NewGaps

@@ -2,9 +2,10 @@
 // descendants of a word and the first of them.
 ghost use Prim.Native.Nat.{_+_, _≤_, _<_};
 ghost use mathlib.Core.Path.{_≡_};
-ghost use mathlib.Core.List.{head?, List·Memᴰ};
+ghost use mathlib.Core.List.{[], _∷_, head?, List·Memᴰ};
 ghost use lib.ListN.{length};
 ghost use Rattle.words.specs.Lists.{onFrom};
+ghost use Rattle.words.specs.Words.{conductor};
 ghost use Rattle.words.specs.Elements.{multiplicity};
 ghost use Rattle.words.specs.Positions.{above};
 ghost use Rattle.words.specs.Answers.{answered, sought, soughtAnswered};
@@ -14,7 +15,8 @@ ghost use Rattle.tables.specs.Branches.{branches, Offsets};
 ghost use Rattle.walk.specs.Answers.{begun};
 ghost use Rattle.walk.specs.Walks.{inOrder, ended, freshOf, freshInOf, startOf, startInOf, batchOf, countOf, firstDescendantOf};
 ghost use Rattle.walk.specs.Cut.{fromMultiplicity};
-ghost use Rattle.walk.specs.Lending.{putOne, putAll};
+ghost use Rattle.walk.specs.Lending.{upTo, putAll};
+ghost use Rattle.walk.specs.NewGaps.{gapBranches, GapsFit};
 use tables::Node;
 use tables::NodeAnswer;
 use windows::FirstAnswer;
@@ -68,7 +70,8 @@ fn later(row: u64, offset: Offset) -> u64
     (row >> passed) << passed
 }
 
-// How many words there are `left` levels below a node: one level below it, as many as the node says.
+// How many words there are `left` levels below a node: one level below it, as many as the node says; two levels below a node whose conductor
+// is above its multiplicity, as many as rows 0 and 1 tell.
 fn count_node(n: Node, left: u64) -> u64
     requires { ⌜ NodeWithLevels left n ⌝ }
     ensures { λ r. ⌜ r ≡ length (leaves left (n .word)) ⌝ }
@@ -79,128 +82,208 @@ fn count_node(n: Node, left: u64) -> u64
     if left == 1 {
         return n.generators();
     }
+    if left == 2 {
+        if words::multiplicity_of(n.word) < n.conductor {
+            return n.grandchildren_by_rows();
+        }
+    }
     sum_from(n, n.first_row(), left - 1)
 }
 
-// How many there are `left` levels below those children of a node whose offsets are the bits of `rest`.
-fn sum_from(n: Node, rest: u64, left: u64) -> u64
+// How many there are `left` levels below those children of a node whose offsets are the bits of `row`: the count of the first child plus the
+// sum from the next on.
+fn sum_from(n: Node, row: u64, left: u64) -> u64
     requires { ⌜ NodeWithLevels (left + 1) n ⌝ }
-    requires { ⌜ Offsets (n .word) rest ⌝ }
-    ensures { λ r. ⌜ r ≡ length (branches left (n .word) rest) ⌝ }
+    requires { ⌜ Offsets (n .word) row ⌝ }
+    ensures { λ r. ⌜ r ≡ length (branches left (n .word) row) ⌝ }
 {
-    if rest == 0 {
-        return 0;
+    let mut rest = row;
+    let mut sum = 0;
+    while rest != 0 {
+        let low = tables::lowest_of(rest);
+        sum += count_node(n.child(low.at), left);
+        rest = low.rest;
     }
-    let d = tables::lowest_of(rest);
-    let at = d.at;
-    count_node(n.child(at), left) + sum_from(n, d.rest, left)
+    sum
 }
 
-// What was done with a lent list: how many words were written, and whether one found no room, which is then the next.
-struct Emitted {
-    written: usize,
-    more: bool,
+// What was done with a lent list: the place after the words that were written; where a word found no room it is one past the end of the
+// list, and the word is the next.
+struct Filled {
+    at: usize,
     next: u64,
 }
 
-// Writes one word after those that were written, unless an earlier one found no room.
-fn put(word: u64, s: Emitted, out: &mut [u64]) -> Emitted
-    ensures { λ r. ⌜ (now (out .exit), r) ≡ putOne word (now (out .entry), s) ⌝ }
+// Writes one word, if the list has a place.
+fn put(word: u64, at: usize, out: &mut [u64]) -> Filled
+    requires { ⌜ at ≤ length (now out) ⌝ }
+    ensures { λ r. ⌜ (now (out .exit), r) ≡ putAll (word ∷ []) (now (out .entry), upTo at) ⌝ }
 {
-    if s.more {
-        return s;
-    }
-    let at = s.written;
     if at < out.len() {
         out[at] = word;
-        return Emitted {
-            written: at + 1,
-            more: false,
+        return Filled {
+            at: at + 1,
             next: 0,
         };
     }
-    Emitted {
-        written: at,
-        more: true,
+    Filled {
+        at: at + 1,
         next: word,
     }
 }
 
-// Writes the children of a node at the offsets that are the bits of `rest`: the node's word with one bit more.
-fn put_children(n: Node, rest: u64, s: Emitted, out: &mut [u64]) -> Emitted
+// Writes the children of a word whose new gaps are the bits of a number, and gives the place after them: the list has room for 64.
+fn put_each(word: u64, bits: u64, from: usize, out: &mut [u64]) -> usize
+    requires { ⌜ GapsFit word bits ⌝ }
+    requires { ⌜ from + 64 ≤ length (now out) ⌝ }
+    ensures { λ r. ⌜ (now (out .exit), upTo r) ≡ putAll (gapBranches 0 word bits) (now (out .entry), upTo from) ⌝ }
+{
+    let mut rest = bits;
+    let mut at = from;
+    while rest != 0 {
+        let low = tables::lowest_of(rest);
+        out[at] = word + (rest - low.rest);
+        at += 1;
+        rest = low.rest;
+    }
+    at
+}
+
+// Writes as many of them as there is room for.
+fn put_while_room(word: u64, bits: u64, from: usize, out: &mut [u64]) -> Filled
+    requires { ⌜ GapsFit word bits ⌝ }
+    requires { ⌜ from ≤ length (now out) ⌝ }
+    ensures { λ r. ⌜ (now (out .exit), r) ≡ putAll (gapBranches 0 word bits) (now (out .entry), upTo from) ⌝ }
+{
+    let mut rest = bits;
+    let mut at = from;
+    while rest != 0 {
+        let low = tables::lowest_of(rest);
+        let t = put(word + (rest - low.rest), at, out);
+        if out.len() < t.at {
+            return t;
+        }
+        at = t.at;
+        rest = low.rest;
+    }
+    Filled { at, next: 0 }
+}
+
+// Writes them, and asks the list for each word only where it may run out.
+fn put_bits(word: u64, bits: u64, at: usize, out: &mut [u64]) -> Filled
+    requires { ⌜ GapsFit word bits ⌝ }
+    requires { ⌜ at ≤ length (now out) ⌝ }
+    ensures { λ r. ⌜ (now (out .exit), r) ≡ putAll (gapBranches 0 word bits) (now (out .entry), upTo at) ⌝ }
+{
+    if 64 <= out.len() - at {
+        return Filled {
+            at: put_each(word, bits, at, out),
+            next: 0,
+        };
+    }
+    put_while_room(word, bits, at, out)
+}
+
+// Writes the children of a node at the offsets that are the bits of `row`.
+fn put_children(n: Node, row: u64, at: usize, out: &mut [u64]) -> Filled
     requires { ⌜ NodeWithLevels 1 n ⌝ }
-    requires { ⌜ Offsets (n .word) rest ⌝ }
-    ensures { λ r. ⌜ (now (out .exit), r) ≡ putAll (branches 0 (n .word) rest) (now (out .entry), s) ⌝ }
+    requires { ⌜ Offsets (n .word) row ⌝ }
+    requires { ⌜ at ≤ length (now out) ⌝ }
+    ensures { λ r. ⌜ (now (out .exit), r) ≡ putAll (branches 0 (n .word) row) (now (out .entry), upTo at) ⌝ }
+{
+    put_bits(n.word, row << (n.conductor - 1), at, out)
+}
+
+// Writes the words two levels below a node whose conductor is above its multiplicity m, from rows 0 and 1 alone: for each generator e, in
+// order, the word without e and without a later generator, and last, where e is an order-one seed, that without e and e + m.
+fn put_grandchildren(n: Node, from: usize, out: &mut [u64]) -> Filled
+    requires { ⌜ NodeWithLevels 2 n ⌝ }
+    requires { ⌜ multiplicity (n .word) < conductor (n .word) ⌝ }
+    requires { ⌜ from ≤ length (now out) ⌝ }
+    ensures { λ r. ⌜ (now (out .exit), r) ≡ putAll (leaves 2 (n .word)) (now (out .entry), upTo from) ⌝ }
 {
     let w = n.word;
-    let c = n.conductor;
-    let mut bits = rest;
-    let mut t = s;
-    while bits != 0 {
-        let d = tables::lowest_of(bits);
-        let at = d.at;
-        let e = Element::at_offset(c, at);
-        t = put(w + (1 << (e.0 - 1)), t, out);
-        bits = d.rest;
+    let up = n.conductor - 1;
+    let m = words::multiplicity_of(w);
+    let row = n.first_row();
+    let seeds = (row & n.second_row()) << up;
+    let mut rest = row << up;
+    let mut at = from;
+    while rest != 0 {
+        let low = tables::lowest_of(rest);
+        let e = rest - low.rest;
+        let t = put_bits(w + e, low.rest | (seeds & e) << m, at, out);
+        if out.len() < t.at {
+            return t;
+        }
+        at = t.at;
+        rest = low.rest;
     }
-    t
+    Filled { at, next: 0 }
 }
 
 // Writes the words `left` levels below a node.
-fn emit(n: Node, left: u64, s: Emitted, out: &mut [u64]) -> Emitted
+fn emit(n: Node, left: u64, at: usize, out: &mut [u64]) -> Filled
     requires { ⌜ NodeWithLevels left n ⌝ }
-    ensures { λ r. ⌜ (now (out .exit), r) ≡ putAll (leaves left (n .word)) (now (out .entry), s) ⌝ }
+    requires { ⌜ at ≤ length (now out) ⌝ }
+    ensures { λ r. ⌜ (now (out .exit), r) ≡ putAll (leaves left (n .word)) (now (out .entry), upTo at) ⌝ }
 {
     if left == 0 {
-        put(n.word, s, out)
-    } else {
-        emit_from(n, n.first_row(), left - 1, s, out)
+        return put(n.word, at, out);
     }
+    if left == 2 {
+        if words::multiplicity_of(n.word) < n.conductor {
+            return put_grandchildren(n, at, out);
+        }
+    }
+    emit_from(n, n.first_row(), left - 1, at, out)
 }
 
-// Writes those `left` levels below the children of a node whose offsets are the bits of `rest`.
-fn emit_from(n: Node, rest: u64, left: u64, s: Emitted, out: &mut [u64]) -> Emitted
+// Writes those `left` levels below the children of a node whose offsets are the bits of `row`.
+fn emit_from(n: Node, row: u64, left: u64, from: usize, out: &mut [u64]) -> Filled
     requires { ⌜ NodeWithLevels (left + 1) n ⌝ }
-    requires { ⌜ Offsets (n .word) rest ⌝ }
-    ensures { λ r. ⌜ (now (out .exit), r) ≡ putAll (branches left (n .word) rest) (now (out .entry), s) ⌝ }
+    requires { ⌜ Offsets (n .word) row ⌝ }
+    requires { ⌜ from ≤ length (now out) ⌝ }
+    ensures { λ r. ⌜ (now (out .exit), r) ≡ putAll (branches left (n .word) row) (now (out .entry), upTo from) ⌝ }
 {
     if left == 0 {
-        return put_children(n, rest, s, out);
+        return put_children(n, row, from, out);
     }
-    if rest == 0 {
-        return s;
+    let mut rest = row;
+    let mut at = from;
+    while rest != 0 {
+        let low = tables::lowest_of(rest);
+        let t = emit(n.child(low.at), left, at, out);
+        if out.len() < t.at {
+            return t;
+        }
+        at = t.at;
+        rest = low.rest;
     }
-    if s.more {
-        return s;
-    }
-    let d = tables::lowest_of(rest);
-    let at = d.at;
-    let t = emit(n.child(at), left, s, out);
-    emit_from(n, d.rest, left, t, out)
+    Filled { at, next: 0 }
 }
 
 // Writes the words `left` levels below a node from `word` on, which is one of them, that have at least the lowest multiplicity: first those
 // below the child that has it. All later ones have the multiplicity of the node, so that below the lowest they are cut.
-fn resume(n: Node, word: u64, left: u64, lowest: u8, s: Emitted, out: &mut [u64]) -> Emitted
+fn resume(n: Node, word: u64, left: u64, lowest: u8, at: usize, out: &mut [u64]) -> Filled
     requires { ⌜ NodeWithLevels left n ⌝ }
     requires { ⌜ List·Memᴰ word (leaves left (n .word)) ⌝ }
     requires { ⌜ lowest ≤ multiplicity word ⌝ }
-    ensures { λ r. ⌜ (now (out .exit), r) ≡ putAll (fromMultiplicity lowest (onFrom word (leaves left (n .word)))) (now (out .entry), s) ⌝ }
+    requires { ⌜ at ≤ length (now out) ⌝ }
+    ensures { λ r. ⌜ (now (out .exit), r) ≡ putAll (fromMultiplicity lowest (onFrom word (leaves left (n .word)))) (now (out .entry), upTo at) ⌝ }
 {
     if left == 0 {
-        put(word, s, out)
-    } else {
-        let d = n.next_offset(word);
-        let t = resume(n.child(d), word, left - 1, lowest, s, out);
-        if t.more {
-            return t;
-        }
-        if words::multiplicity_of(n.word) < lowest as u64 {
-            return t;
-        }
-        let rest = later(n.first_row(), d);
-        emit_from(n, rest, left - 1, t, out)
+        return put(word, at, out);
     }
+    let d = n.next_offset(word);
+    let t = resume(n.child(d), word, left - 1, lowest, at, out);
+    if out.len() < t.at {
+        return t;
+    }
+    if words::multiplicity_of(n.word) < lowest as u64 {
+        return t;
+    }
+    emit_from(n, later(n.first_row(), d), left - 1, t.at, out)
 }
 
 // The first of the words `left` levels below a node, or that there is none: the one that finds no room in a list without places.
@@ -208,14 +291,12 @@ fn first_leaf(n: Node, left: u64) -> Found
     requires { ⌜ NodeWithLevels left n ⌝ }
     ensures { λ r. ⌜ sought r ≡ head? (leaves left (n .word)) ⌝ }
 {
+    if left == 0 {
+        return Found::Number(n.word);
+    }
     let mut places = [0u64; 0];
-    let none = Emitted {
-        written: 0,
-        more: false,
-        next: 0,
-    };
-    let s = emit(n, left, none, &mut places);
-    if s.more {
+    let s = emit_from(n, n.first_row(), left - 1, 0, &mut places);
+    if 0 < s.at {
         return Found::Number(s.next);
     }
     Found::Nothing
@@ -322,15 +403,12 @@ pub fn step(walk: Walk, out: &mut [u64]) -> Moved
             }),
         };
     }
-    let none = Emitted {
-        written: 0,
-        more: false,
-        next: 0,
-    };
-    let s = resume(Node::root(), walk.word, genus, walk.lowest, none, out);
+    let s = resume(Node::root(), walk.word, genus, walk.lowest, 0, out);
+    let more = out.len() < s.at;
+    let count = if more { out.len() } else { s.at };
     let report = Written {
-        count: s.written,
-        finished: !s.more,
+        count,
+        finished: !more,
     };
     Moved {
         walk: Walk {
@@ -338,7 +416,7 @@ pub fn step(walk: Walk, out: &mut [u64]) -> Moved
             word: s.next,
             lowest: walk.lowest,
             highest: walk.highest,
-            finished: !s.more,
+            finished: !more,
         },
         answer: BatchAnswer::Given(report),
     }

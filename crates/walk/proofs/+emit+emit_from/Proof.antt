@@ -1,17 +1,21 @@
--- The proof of the cycle of calls {emit, emit_from}. The levels below a node are the measure, and then what is left of its row.
--- Assumes nothing.
-use Prim.Native.Nat.{ℕ, suc, _+_, suc-le-suc, _<_}
-use mathlib.Core.Path.{sym, subst}
-use native.Mathlib.Nat.{zero-lt-suc}
+-- The proof of the cycle of calls {emit, emit_from}. The levels below a node are the measure. The loop's invariant: what is left to put makes,
+-- with what was put, all that there is to put. Assumes nothing.
+use Prim.Native.Nat.{ℕ, _+_, _*_, _^_, _≤_, _<_}
+use mathlib.Core.Path.{_≡_, refl, sym, subst, ap, _∙_}
+use mathlib.Core.List.{List, _++_}
 use native.Mathlib.Omega.{arith}
+use lib.ListN.{length}
+use denote.Ref.{now}
+use borrow.Author.Needs.{needs}
 use borrow.Fn.Kinds.{In}
 use borrow.Fn.PlainCycle.{Measures, is, falls, and}
 use Rattle.words.specs.Tree.{leaves}
 use Rattle.tables.specs.Levels.{NodeWithLevels}
-use Rattle.walk.specs.Lending.{putAll}
+use Rattle.tables.specs.Branches.{branches, Offsets}
+use Rattle.tables.proofs.Levels.{node-conductor}
 use Rattle.tables.proofs.Branches.{TakenOff, taken-off, branches-none, Row, row-branches, FirstChild, first-child}
-use Rattle.walk.proofs.Lending.{put-append, put-more}
-use Rattle.walk.proofs.Measure.{depth, depth-down, depth-on}
+use Rattle.walk.specs.Lending.{upTo, putAll}
+use Rattle.walk.proofs.Lending.{put-stops, put-follows}
 use Rattle.walk.proofs.emit.Reads as emit
 use Rattle.walk.proofs.emit.Kinds as emit-kinds
 use Rattle.walk.proofs.+emit+emit_from.Lts-emit as emit-lts
@@ -23,14 +27,16 @@ use Rattle.tables.proofs.Node.first_row.Reads as first-row-reads
 use Rattle.tables.proofs.lowest_of.Reads as lowest-of-reads
 use Rattle.walk.proofs.put.Reads as put-reads
 use Rattle.walk.proofs.put_children.Reads as put-children-reads
+use Rattle.walk.proofs.put_grandchildren.Reads as put-grandchildren-reads
+use Rattle.words.proofs.multiplicity_of.Reads as multiplicity-of-reads
 use Rattle.walk.proofs.+emit+emit_from.{statement}
 use Rattle.walk.proofs.+emit+emit_from.Tie.{close}
 
 abbrev μ-emit : Measures 1 emit-kinds.ps ℕ
-μ-emit κs a = depth (a .1 .0) 0
+μ-emit κs a = 2 * a .1 .0
 
 abbrev μ-emit-from : Measures 1 emit-from-kinds.ps ℕ
-μ-emit-from κs a = depth (a .1 .1 .0) (suc (a .1 .0))
+μ-emit-from κs a = 2 * a .1 .1 .0 + 1
 
 abbrev emit-at : ℕ → In 1 emit-kinds.ps
 emit-at t = and 1 emit-kinds.ps (is 1 emit-kinds.ps μ-emit t) emit.Pre
@@ -45,97 +51,136 @@ abbrev emit-from-below : ℕ → In 1 emit-from-kinds.ps
 emit-from-below t = and 1 emit-from-kinds.ps (falls 1 emit-from-kinds.ps _<_ μ-emit-from t) emit-from.Pre
 
 abbrev emit-claims : ℕ → emit-lts.Claims
-emit-claims t = (put-reads.Asked, put-reads.Learnt, first-row-reads.Asked, first-row-reads.Learnt, emit-from-below t, emit-from.Post)
+emit-claims t = (put-reads.Asked, put-reads.Learnt, multiplicity-of-reads.Asked, multiplicity-of-reads.Learnt, put-grandchildren-reads.Asked, put-grandchildren-reads.Learnt, first-row-reads.Asked, first-row-reads.Learnt, emit-from-below t, emit-from.Post)
+
+abbrev emit-from-Inv-loop : emit-from-lts.InvT-loop
+emit-from-Inv-loop n row left from out₀ rest₀ at₀ out rest at =
+    (rest < 2 ^ 64) × Offsets (n .word) rest × (at ≤ length out) × (length out ≡ length out₀)
+    × (putAll (branches left (n .word) rest) (out, upTo at) ≡ putAll (branches left (n .word) rest₀) (out₀, upTo at₀))
+
+abbrev emit-from-μ-loop : emit-from-lts.MeasureT-loop
+emit-from-μ-loop n row left from out₀ rest₀ at₀ out rest at = rest
 
 abbrev emit-from-claims : ℕ → emit-from-lts.Claims
-emit-from-claims t =
-    (put-children-reads.Asked, put-children-reads.Learnt, lowest-of-reads.Asked, lowest-of-reads.Learnt, child-reads.Asked, child-reads.Learnt, emit-below t, emit.Post, emit-from-below t, emit-from.Post)
+emit-from-claims t = (put-children-reads.Asked, put-children-reads.Learnt, lowest-of-reads.Asked, lowest-of-reads.Learnt, child-reads.Asked, child-reads.Learnt, emit-below t, emit.Post)
 
 module _ (t : ℕ) where
+  -- ---- emit
+
+  emit-returns : emit-lts.Need-returns (emit-claims t) (emit-at t) emit.Post
+  unfolding leaves
+  emit-returns c = rw (c .before .before .before .before .if1 .taken) (c .before .before .put .ensures)
+
+  emit-put-grandchildren-requires : emit-lts.Need-put-grandchildren-requires (emit-claims t) (emit-at t) emit.Post
+  emit-put-grandchildren-requires c κs =
+      let told = c .before .before .before in
+      let start = told .before .before .before .before in
+      let here = subst (λ (k : ℕ). NodeWithLevels k (start .args .n)) (told .before .if2 .taken) (start .pre .1 .0) in
+      (here, (omega (arith, told .multiplicity-of .ensures, node-conductor 2 _ here), start .pre .1 .1))
+
+  emit-returns-2 : emit-lts.Need-returns-2 (emit-claims t) (emit-at t) emit.Post
+  emit-returns-2 c = rw (c .before .before .before .before .before .before .before .if2 .taken) (c .before .before .put-grandchildren .ensures)
+
   -- the node's first row
   row : (c : emit-lts.After-first-row (emit-claims t) (emit-at t) emit.Post) →
-      let start = c .before .before .before in Row (start .args .left) (start .args .n) (c .first-row .result)
-  row c = row-branches _ _ (c .before .if1 .left) (c .before .before .before .pre .1) (c .first-row .ensures)
+      let start = c .before .before .before .before in Row (start .args .left) (start .args .n) (c .first-row .result)
+  row c = row-branches _ _ (c .before .before .if1 .left) (c .before .before .before .before .pre .1 .0) (c .first-row .ensures)
 
   emit-emit-from-requires : emit-lts.Need-emit-from-requires (emit-claims t) (emit-at t) emit.Post
   emit-emit-from-requires c κs =
-      let at = c .before .before .before .before .args in
       let found = row (c .before) in
-      (omega (arith, depth-down (at .left) (c .before .first-row .result) (c .before .before .if1 .left) (c .before .first-row .ok)), (found .node-levels, found .offsets))
+      (omega arith, (found .node-levels, (found .offsets, c .before .before .before .before .before .pre .1 .1)))
 
-  emit-returns : emit-lts.Need-returns (emit-claims t) (emit-at t) emit.Post
-  unfolding leaves putAll
-  emit-returns c = rw (c .before .before .before .before .if1 .taken) (c .before .before .put .ensures)
+  emit-returns-3 : emit-lts.Need-returns-3 (emit-claims t) (emit-at t) emit.Post
+  emit-returns-3 c = rw (row (c .before .before .before .before) .all) (c .before .before .emit-from .ensures)
 
-  emit-returns-2 : emit-lts.Need-returns-2 (emit-claims t) (emit-at t) emit.Post
-  emit-returns-2 c = rw (row (c .before .before .before .before) .all) (c .before .before .emit-from .ensures)
+  -- ---- emit_from
 
-  emit-from-put-children-requires : emit-from-lts.Need-put-children-requires (emit-from-claims t) (emit-from-at t) emit-from.Post
+  emit-from-put-children-requires : emit-from-lts.Need-put-children-requires (emit-from-claims t) (emit-from-at t) emit-from.Post emit-from-Inv-loop emit-from-μ-loop
   emit-from-put-children-requires c κs =
       let start = c .before .before .before in
       (subst (λ (k : ℕ). NodeWithLevels (k + 1) (start .args .n)) (c .before .if1 .taken) (start .pre .1 .0), start .pre .1 .1)
 
-  emit-from-returns : emit-from-lts.Need-returns (emit-from-claims t) (emit-from-at t) emit-from.Post
+  emit-from-returns : emit-from-lts.Need-returns (emit-from-claims t) (emit-from-at t) emit-from.Post emit-from-Inv-loop emit-from-μ-loop
   emit-from-returns c = rw (c .before .before .before .before .if1 .taken) (c .before .before .put-children .ensures)
 
-  emit-from-returns-2 : emit-from-lts.Need-returns-2 (emit-from-claims t) (emit-from-at t) emit-from.Post
-  unfolding putAll
-  emit-from-returns-2 c = rw (c .if2 .taken, branches-none)
-
-  emit-from-returns-3 : emit-from-lts.Need-returns-3 (emit-from-claims t) (emit-from-at t) emit-from.Post
-  emit-from-returns-3 c = sym (put-more _ _ (c .if3 .taken))
+  emit-from-loop-holds : emit-from-lts.Need-loop-holds (emit-from-claims t) (emit-from-at t) emit-from.Post emit-from-Inv-loop emit-from-μ-loop
+  emit-from-loop-holds c = let start = c .before .before in (start .fits .row .fits, start .pre .1 .1 .0, start .pre .1 .1 .1, refl, refl)
 
   -- the lowest offset, taken off the others
-  lowest : (c : emit-from-lts.After-lowest-of (emit-from-claims t) (emit-from-at t) emit-from.Post)
-      → TakenOff (c .before .before .before .before .before .args .rest) (c .lowest-of .result .at .0) (c .lowest-of .result .rest)
-  lowest c = taken-off _ (omega arith) (omega arith) (c .lowest-of .ensures)
+  lowest : (c : emit-from-lts.After-lowest-of (emit-from-claims t) (emit-from-at t) emit-from.Post emit-from-Inv-loop emit-from-μ-loop)
+      → TakenOff (c .before .before .loop .rest) (c .lowest-of .result .at .0) (c .lowest-of .result .rest)
+  lowest c = taken-off _ (omega arith) (c .before .before .loop .inv .0) (c .lowest-of .ensures)
 
   -- the child at the lowest offset, and the others
-  first : (c : emit-from-lts.After-child (emit-from-claims t) (emit-from-at t) emit-from.Post) →
-      let low = c .before .before in
-      let at = low .before .before .before .before .before .args in
-      FirstChild (at .left) (at .n) (c .child .result) (at .rest) (low .lowest-of .result .rest)
+  first : (c : emit-from-lts.After-child (emit-from-claims t) (emit-from-at t) emit-from.Post emit-from-Inv-loop emit-from-μ-loop) →
+      let at-loop = c .before .before .before in
+      let args = at-loop .before .before .before .args in
+      FirstChild (args .left) (args .n) (c .child .result) (at-loop .loop .rest) (c .before .lowest-of .result .rest)
   first c =
-      let low = c .before .before in
-      let start = low .before .before .before .before .before in
-      first-child _ _ (start .pre .1 .0) (start .pre .1 .1) (lowest low) (c .child .ensures)
+      let at-loop = c .before .before .before in
+      first-child _ _ (at-loop .before .before .before .pre .1 .0) (at-loop .loop .inv .1) (lowest (c .before)) (c .child .ensures)
 
-  emit-from-emit-requires : emit-from-lts.Need-emit-requires (emit-from-claims t) (emit-from-at t) emit-from.Post
-  emit-from-emit-requires c κs =
-      let at = c .before .before .before .before .before .before .before .before .args in
-      (omega (arith, depth-on (at .left) (zero-lt-suc (at .rest))), first (c .before) .node-levels)
+  -- the words below the child come first
+  parts : (c : emit-from-lts.After-child (emit-from-claims t) (emit-from-at t) emit-from.Post emit-from-Inv-loop emit-from-μ-loop) →
+      let at-loop = c .before .before .before in
+      let args = at-loop .before .before .before .args in
+      putAll (leaves (args .left) (c .child .result .word) ++ branches (args .left) (args .n .word) (c .before .lowest-of .result .rest)) (at-loop .loop .out, upTo (at-loop .loop .at))
+      ≡ putAll (branches (args .left) (args .n .word) (args .row)) (now (args .out), upTo (args .from))
+  parts c =
+      let at-loop = c .before .before .before in
+      sym (ap (λ (l : List ℕ). putAll l (at-loop .loop .out, upTo (at-loop .loop .at))) (first c .parts)) ∙ at-loop .loop .inv .4
 
-  emit-from-emit-from-requires : emit-from-lts.Need-emit-from-requires (emit-from-claims t) (emit-from-at t) emit-from.Post
-  emit-from-emit-from-requires c κs =
-      let at-child = c .before .before .before .before .before in
-      let low = at-child .before .before in
-      let start = low .before .before .before .before .before in
-      (omega (arith, depth-on (start .args .left) (suc-le-suc (lowest low .fewer))), (start .pre .1 .0, first at-child .others))
+  emit-from-emit-requires : emit-from-lts.Need-emit-requires (emit-from-claims t) (emit-from-at t) emit-from.Post emit-from-Inv-loop emit-from-μ-loop
+  emit-from-emit-requires c κs = (omega arith, (first (c .before) .node-levels, c .before .before .before .before .loop .inv .2))
 
-  emit-from-returns-4 : emit-from-lts.Need-returns-4 (emit-from-claims t) (emit-from-at t) emit-from.Post
-  emit-from-returns-4 c =
-      let at-emit = c .before .before .before .before .before .before in
-      rw (first (at-emit .before .before) .parts, put-append, ← at-emit .emit .ensures) (c .before .before .emit-from .ensures)
+  emit-from-returns-2 : emit-from-lts.Need-returns-2 (emit-from-claims t) (emit-from-at t) emit-from.Post emit-from-Inv-loop emit-from-μ-loop
+  emit-from-returns-2 c =
+      let at-emit = c .before .before .before .before in
+      sym (sym (parts (at-emit .before .before)) ∙ put-stops _ _ _ _ (at-emit .emit .ensures) (omega (arith, c .if2 .taken)))
+
+  emit-from-loop-again : emit-from-lts.Need-loop-again (emit-from-claims t) (emit-from-at t) emit-from.Post emit-from-Inv-loop emit-from-μ-loop
+  emit-from-loop-again c =
+      let at-emit = c .before .before .before .before in
+      let at-child = at-emit .before .before in (
+        omega (arith, lowest (at-child .before) .fewer),
+        first at-child .others,
+        omega (arith, c .if2 .left),
+        at-emit .emit .kept .1 .1 .1 .0 ∙ at-child .before .before .before .loop .inv .3,
+        sym (put-follows _ _ _ _ (at-emit .emit .ensures) (omega (arith, c .if2 .left))) ∙ parts at-child,
+      )
+
+  emit-from-returns-3 : emit-from-lts.Need-returns-3 (emit-from-claims t) (emit-from-at t) emit-from.Post emit-from-Inv-loop emit-from-μ-loop
+  unfolding putAll
+  emit-from-returns-3 c = rw (c .loop-test .left, branches-none) at (c .before .loop .inv .4)
 
 pub +emit+emit-from-spec : {M : Type 1} → statement M
 +emit+emit-from-spec = close μ-emit μ-emit-from (λ t. emit-lts.spec (emit-claims t) (emit-at t) emit.Post
+    (λ c κs. c .before .before .before .pre .1 .1)
+    (λ c. search needs)
+    (emit-returns t)
     (λ c κs. tt)
+    (emit-put-grandchildren-requires t)
+    (λ c. search needs)
+    (emit-returns-2 t)
     (λ c κs. tt)
     (λ c. omega arith)
     (emit-emit-from-requires t)
-    (λ c. omega arith)
-    (emit-returns t)
-    (λ c. omega arith)
-    (emit-returns-2 t))
+    (λ c. search needs)
+    (emit-returns-3 t))
     λ t. emit-from-lts.spec (emit-from-claims t) (emit-from-at t) emit-from.Post
+    emit-from-Inv-loop
+    emit-from-μ-loop
     (emit-from-put-children-requires t)
-    (λ c. omega arith)
+    (λ c. search needs)
     (emit-from-returns t)
-    (emit-from-returns-2 t)
-    (emit-from-returns-3 t)
+    (emit-from-loop-holds t)
     (λ c κs. omega arith)
     (λ c κs. tt)
     (emit-from-emit-requires t)
-    (emit-from-emit-from-requires t)
-    (λ c. omega arith)
-    (emit-from-returns-4 t)
+    (λ c. c .before .before .before .before .emit .kept .1 .1 .1 .0 ∙ c .before .before .before .before .before .before .before .before .before .loop .inv .3)
+    (emit-from-returns-2 t)
+    (λ c. lowest t (c .before .before .before .before .before .before .before) .fewer)
+    (emit-from-loop-again t)
+    (λ c. c .before .loop .inv .3)
+    (emit-from-returns-3 t)

@@ -2,16 +2,16 @@
 use Prim.Native.Nat.{ℕ, _≤_, _<_}
 use mathlib.Core.Path.{_≡_, sym, ap, subst, _∙_}
 use native.Mathlib.Omega.{arith}
+use borrow.Author.Needs.{needs}
 use borrow.Fn.Kinds.{In}
 use borrow.Fn.PlainCycle.{Measures, is, falls, and}
 use Rattle.words.specs.Positions.{above}
 use Rattle.words.specs.Elements.{multiplicity}
 use Rattle.tables.specs.Nodes.{firstRow}
 use Rattle.tables.specs.Branches.{Offsets}
-use Rattle.walk.specs.Lending.{putAll}
 use Rattle.walk.proofs.Resuming.{on-from-own, Below, next-child}
 use Rattle.walk.proofs.Cut.{later-parts, later-cut, later-kept, kept-own}
-use Rattle.walk.proofs.Lending.{put-append, put-more}
+use Rattle.walk.proofs.Lending.{put-stops, put-follows}
 use Rattle.walk.proofs.resume.Reads as resume
 use Rattle.walk.proofs.resume.Kinds as resume-kinds
 use Rattle.walk.proofs.+resume.Lts-resume as resume-lts
@@ -65,84 +65,79 @@ module _ (t : ℕ) where
 
   -- the offsets after that one
   after : (c : resume-lts.After-later claims at resume.Post) →
-      let at-offset = c .before .before .before .before .before .before .before .before .before .before in
+      let at-offset = c .before .before .before .before .before .before .before .before .before .before .before in
       c .later .result ≡ above (firstRow (at-offset .before .before .before .args .n)) (at-offset .next-offset .result .0)
   after c =
-      let at-offset = c .before .before .before .before .before .before .before .before .before .before in
+      let at-offset = c .before .before .before .before .before .before .before .before .before .before .before in
       c .later .ensures ∙ ap (λ (row : ℕ). above row (at-offset .next-offset .result .0)) (c .before .first-row .ensures)
 
   resume-requires : resume-lts.Need-resume-requires claims at resume.Post
   resume-requires c κs =
       let b = found (c .before .before) in
-      (omega arith, rw (c .before .child .ensures) (b .child, (b .leaf, c .before .before .before .before .before .pre .1 .1 .1)))
+      let start = c .before .before .before .before .before in
+      (omega arith, rw (c .before .child .ensures) (b .child, (b .leaf, start .pre .1 .1 .1)))
 
   later-requires : resume-lts.Need-later-requires claims at resume.Post
-  later-requires c κs = omega (arith, found (c .before .before .before .before .before .before .before .before .before) .near)
+  later-requires c κs = omega (arith, found (c .before .before .before .before .before .before .before .before .before .before) .near)
 
   emit-from-requires : resume-lts.Need-emit-from-requires claims at resume.Post
   emit-from-requires c κs =
-      let b = found (c .before .before .before .before .before .before .before .before .before .before .before) in
-      (b .node-levels, subst (Offsets _) (sym (after (c .before))) (b .offsets))
+      let b = found (c .before .before .before .before .before .before .before .before .before .before .before .before) in
+      (b .node-levels, (subst (Offsets _) (sym (after (c .before))) (b .offsets), omega (arith, c .before .before .before .before .before .if2 .left)))
 
-  -- a word found no room: nothing more is put
+  -- no level below the node: its word
   returns : resume-lts.Need-returns claims at resume.Post
   returns c =
-      let at-resume = c .before .before .before in
-      let b = found (at-resume .before .before .before) in
-      rw (later-parts _ _ _ _ _ b, put-append, ← at-resume .before .before .child .ensures, ← at-resume .resume .ensures) (sym (put-more _ _ (c .if2 .taken)))
+      let start = c .before .before .before .before .before .before in
+      let none = c .before .before .before .before .if1 .taken in
+      rw (none, on-from-own _ _ (rw none at (start .pre .1 .1 .0)), kept-own _ _ (start .pre .1 .1 .1 .0)) (c .before .before .put .ensures)
 
-  -- the multiplicity of the node is below the lowest: the later branches are cut
+  -- a word found no room: nothing more is put
   returns-2 : resume-lts.Need-returns-2 claims at resume.Post
   returns-2 c =
-      let at-resume = c .before .before .before .before .before in
+      let at-resume = c .before .before .before .before in
+      let b = found (at-resume .before .before .before) in
+      rw (later-parts _ _ _ _ _ b, ← at-resume .before .before .child .ensures) (sym (put-stops _ _ _ _ (at-resume .resume .ensures) (omega (arith, c .if2 .taken))))
+
+  -- the multiplicity of the node is below the lowest: the later branches are cut
+  returns-3 : resume-lts.Need-returns-3 claims at resume.Post
+  returns-3 c =
+      let at-resume = c .before .before .before .before .before .before in
       let b = found (at-resume .before .before .before) in
       let a = at-resume .before .before .before .before .before .before .args in
       let below : multiplicity (a .n .word) < a .lowest = omega (arith, c .before .multiplicity-of .ensures) in
       rw (later-cut _ _ _ _ _ b below, ← at-resume .before .before .child .ensures) (at-resume .resume .ensures)
-
-  returns-3 : resume-lts.Need-returns-3 claims at resume.Post
-  unfolding putAll
-  returns-3 c =
-      let start = c .before .before .before .before .before .before in
-      let none = c .before .before .before .before .if1 .taken in
-      rw (none, on-from-own _ _ (rw none at (start .pre .1 .1 .0)), kept-own _ _ (start .pre .1 .1 .1)) (c .before .before .put .ensures)
 
   -- otherwise they follow
   returns-4 : resume-lts.Need-returns-4 claims at resume.Post
   returns-4 c =
       let at-later = c .before .before .before .before in
       let at-test = at-later .before .before in
-      let at-resume = at-test .before .before .before .before .before in
+      let at-resume = at-test .before .before .before .before .before .before in
       let b = found (at-resume .before .before .before) in
       let a = at-resume .before .before .before .before .before .before .args in
       let inside : a .lowest ≤ multiplicity (a .n .word) = omega (arith, at-test .before .multiplicity-of .ensures) in
-      rw (
-        later-kept _ _ _ _ _ b inside,
-        put-append,
-        ← at-resume .before .before .child .ensures,
-        ← at-resume .resume .ensures,
-        ← after at-later,
-      )
-      (c .before .before .emit-from .ensures)
+      rw (later-kept _ _ _ _ _ b inside, ← at-resume .before .before .child .ensures, ← after at-later)
+      (c .before .before .emit-from .ensures ∙ sym (put-follows _ _ _ _ (at-resume .resume .ensures) (omega (arith, at-test .before .before .if2 .left))))
 
 pub +resume-spec : {M : Type 1} → statement M
 +resume-spec =
     close μ λ t. resume-lts.spec (claims t) (at t) resume.Post
-    (λ c κs. tt)
+    (λ c κs. c .before .before .before .pre .1 .1 .1 .1)
+    (λ c. search needs)
+    (returns t)
     (λ c κs. tt)
     (λ c κs. tt)
     (λ c. omega arith)
     (resume-requires t)
-    (λ c. omega arith)
-    (returns t)
-    (λ c κs. tt)
-    (λ c. omega arith)
+    (λ c. search needs)
     (returns-2 t)
+    (λ c κs. tt)
+    (λ c. search needs)
+    (returns-3 t)
     (λ c κs. tt)
     (later-requires t)
     (λ c. omega arith)
     (emit-from-requires t)
-    (λ c. omega arith)
-    (returns-3 t)
-    (λ c. omega arith)
+    (λ c. search needs)
     (returns-4 t)

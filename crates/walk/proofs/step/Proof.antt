@@ -1,5 +1,6 @@
 -- `walk::step` meets its contract: each refusal by its question, and else the words are put from the walk's on. Assumes nothing.
 use mathlib.Core.Path.{_≡_, sym, _∙_}
+use mathlib.Core.Logic.{⊎-elim}
 use mathlib.Core.Bool.{true}
 use native.Mathlib.Omega.{arith}
 use borrow.Author.Needs.{needs}
@@ -7,7 +8,7 @@ use borrow.Author.Tests.{not-true, not-false}
 use Rattle.tables.specs.Nodes.{nodeOf}
 use Rattle.walk.specs.Walks.{inOrder}
 use Rattle.tables.proofs.Levels.{root-levels}
-use Rattle.walk.proofs.Batches.{walk-leaf, batch-genus, batch-order, batch-finished, batch-put}
+use Rattle.walk.proofs.Batches.{written, walk-leaf, batch-genus, batch-order, batch-finished, batch-put}
 use Rattle.walk.proofs.step.Statement.{statement}
 use Rattle.walk.proofs.step.Tie as tie
 
@@ -35,11 +36,16 @@ unfolding nodeOf
 resume-requires c κs =
     let at-order = c .before .before .before .before in
     let start = at-order .before .before .before in
+    let leaf = walk-leaf (start .args .walk) (omega (arith, start .good)) (at-order .before .if1 .left) (ordered (c .before .before .before)) (c .before .before .if3 .left) in
     rw (c .before .root .ensures)
-    (root-levels _ (at-order .before .if1 .left), walk-leaf (start .args .walk) (omega (arith, start .good)) (at-order .before .if1 .left) (ordered (c .before .before .before)) (c .before .before .if3 .left))
+    (root-levels _ (at-order .before .if1 .left), (leaf .0, (leaf .1, omega arith)))
 
 same-length : tie.Need-same-length
 same-length c = search needs
+
+-- the number of words written
+count : (c : tie.Joined4) → let at-resume = c .before .before .before .before in c .if4 .count ≡ written (at-resume .resume .last .1 .1 .1 .1 .1 .0, at-resume .resume .result)
+count c = ⊎-elim (λ (test, e). e ∙ rw (test .taken)) (λ (test, e). e ∙ rw (test .left)) (c .if4 .came)
 
 returns-4 : tie.Need-returns-4
 unfolding nodeOf
@@ -47,8 +53,9 @@ returns-4 c =
     let at-resume = c .before .before .before .before in
     let at-root = at-resume .before .before in
     let at-order = at-root .before .before .before in
-    sym (batch-put _ _ (at-order .before .if1 .left) (ordered (at-root .before .before)) (omega (arith, at-order .before .before .before .good)) (at-root .before .if3 .left)
-    (rw (at-root .root .ensures) at (at-resume .resume .ensures)))
+    rw (count c)
+    (sym (batch-put _ _ (at-order .before .if1 .left) (ordered (at-root .before .before)) (omega (arith, at-order .before .before .before .good)) (at-root .before .if3 .left)
+    (rw (at-root .root .ensures) at (at-resume .resume .ensures))))
 
 pub step-spec : {M : Type 1} → statement M
 step-spec = tie.close (tie.spec returns in-order-requires returns-2 returns-3 root-requires resume-requires same-length returns-4)
