@@ -2,7 +2,7 @@
 use Prim.Native.Nat.{ℕ, zero, suc, _+_, _-_, _*_, _/_, _%_, _^_, _≤_, _<_}
 use mathlib.Core.Path.{_≡_, refl, sym, _∙_, ap, subst}
 use mathlib.Core.Bool.{true}
-use mathlib.Core.List.{List, [], _∷_, _++_}
+use mathlib.Core.List.{List, [], _∷_, _++_, append-assoc}
 use native.Mathlib.Omega.{arith}
 use native.Mathlib.Nat.{div-lt-iff-lt-mul, pow-suc}
 use lib.Dec.{ltb, lit<}
@@ -12,6 +12,7 @@ use Rattle.words.specs.Lists.{every}
 use Rattle.words.proofs.Booleans.{by-value}
 use Rattle.words.proofs.Lists.{every-append}
 use Rattle.listing.specs.Decimal.{byteOf, digits, decimal, isDigit, valueAfter, value}
+use Rattle.listing.specs.Writing.{pairOf}
 
 -- ---- the digits of n, where there is room for k + 1
 
@@ -58,8 +59,25 @@ pub decimal-more : (n : ℕ) → 10 ≤ n → n < 2 ^ 64 → decimal n ≡ decim
 unfolding decimal
 decimal-more n h fits = digits-more 19 n h ∙ ap (λ (l : List ℕ). l ++ byteOf (n % 10) ∷ []) (enough 18 (n / 10) (omega arith))
 
-pub length-more : (n : ℕ) → 10 ≤ n → n < 2 ^ 64 → length (decimal n) ≡ length (decimal (n / 10)) + 1
-length-more n h fits = ap length (decimal-more n h fits) ∙ length-append (decimal (n / 10)) (byteOf (n % 10) ∷ [])
+-- two digits are a pair
+pub decimal-pair : (n : ℕ) → 10 ≤ n → n < 100 → decimal n ≡ pairOf n
+unfolding pairOf
+decimal-pair n h small = rw (decimal-more n h (omega arith), decimal-one (n / 10) (omega arith))
+
+module _ (n : ℕ) (h : 100 ≤ n) (fits : n < 2 ^ 64) where
+  -- more than two are those of n / 100 and a pair
+  pub decimal-pairs : decimal n ≡ decimal (n / 100) ++ pairOf (n % 100)
+  unfolding pairOf
+  decimal-pairs =
+      let hundreds : n / 10 / 10 ≡ n / 100 = omega arith in
+      let tens : n / 10 % 10 ≡ n % 100 / 10 = omega arith in
+      let ones : n % 10 ≡ n % 100 % 10 = omega arith in
+      rw (decimal-more n (omega arith) fits, decimal-more (n / 10) (omega arith) (omega arith), append-assoc, hundreds, tens, ones)
+
+  -- and two more in number
+  pub length-pairs : length (decimal n) ≡ length (decimal (n / 100)) + 2
+  unfolding pairOf
+  length-pairs = ap length decimal-pairs ∙ length-append (decimal (n / 100)) (pairOf (n % 100))
 
 module _ (n : ℕ) (fits : n < 2 ^ 64) where
   by-decimal : (P : ℕ → List ℕ → Type 0) → ((n : ℕ) → n < 10 → P n (byteOf n ∷ []))

@@ -10,7 +10,7 @@ ghost use Rattle.words.specs.Answers.{numberOf, answered, listed};
 ghost use Rattle.listing.specs.Decimal.{decimal, isDigit};
 ghost use Rattle.listing.specs.Text.{field, header, headerOf, headerLines, headersOf, lineOf, refusalLineOf};
 ghost use Rattle.listing.specs.Request.{requestAnswered, requestOf};
-ghost use Rattle.listing.specs.Writing.{Puts};
+ghost use Rattle.listing.specs.Writing.{pairOf, Puts};
 ghost use Rattle.listing.specs.Pages.{opened, freshListingOf, headingOf, linesWithin, turned, pageOf};
 use walk::BatchAnswer;
 use walk::Walk;
@@ -102,7 +102,17 @@ pub fn request(input: &[u8]) -> RequestAnswer
     RequestAnswer::Refused(Refusal::MalformedInput)
 }
 
-// Writes a number in decimal from the place `at` on, and gives the place after it.
+// Writes the two digits of a number below 100, and gives the place after them.
+fn put_pair(out: &mut [u8], at: usize, n: u8) -> usize
+    requires { ⌜ at + 2 ≤ length (now out) ⌝ }
+    ensures { λ r. ⌜ Puts (now (out .entry)) at (pairOf n) (now (out .exit)) r ⌝ }
+{
+    out[at] = b'0' + n / 10;
+    out[at + 1] = b'0' + n % 10;
+    at + 2
+}
+
+// Writes a number in decimal from the place `at` on, two digits at a time, and gives the place after it.
 fn put_number(out: &mut [u8], at: usize, n: u64) -> usize
     requires { ⌜ at + length (decimal n) ≤ length (now out) ⌝ }
     ensures { λ r. ⌜ Puts (now (out .entry)) at (decimal n) (now (out .exit)) r ⌝ }
@@ -111,9 +121,11 @@ fn put_number(out: &mut [u8], at: usize, n: u64) -> usize
         out[at] = b'0' + n as u8;
         return at + 1;
     }
-    let next = put_number(out, at, n / 10);
-    out[next] = b'0' + (n % 10) as u8;
-    next + 1
+    if n < 100 {
+        return put_pair(out, at, n as u8);
+    }
+    let next = put_number(out, at, n / 100);
+    put_pair(out, next, (n % 100) as u8)
 }
 
 // Writes a number in decimal and the byte that ends it.
