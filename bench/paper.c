@@ -24,16 +24,16 @@ static uint64_t count(unsigned gamma, uint64_t G, uint64_t S, unsigned c, unsign
 /* The number of semigroups of a genus. The recursion starts at the semigroup of genus 1, whose strings are 1 and 11. */
 uint64_t paper_count(unsigned genus) { return genus == 0 ? 1 : count(genus, 1, 3, 2, 1, 2); }
 
+/* A buffer of words, and what is done with them when it is full. */
 struct sink {
   uint64_t *words;
   size_t length, used;
-  uint64_t total, mixed;
+  void (*full)(const uint64_t *words, size_t count, void *to);
+  void *to;
 };
 
-/* A full buffer is read once, as a caller would, and is used again. */
 static void flush(struct sink *k) {
-  for (size_t i = 0; i < k->used; i++) k->mixed = k->mixed * 31 + k->words[i];
-  k->total += k->used;
+  k->full(k->words, k->used, k->to);
   k->used = 0;
 }
 
@@ -57,14 +57,31 @@ static void walk(unsigned gamma, uint64_t G, uint64_t S, unsigned c, unsigned g,
     }
 }
 
-/* All semigroups of a genus through a buffer: how many, and a number mixed from their words in order. */
-uint64_t paper_walk(unsigned genus, uint64_t *words, size_t length, uint64_t *mixed) {
-  struct sink k = {words, length, 0, 0, 0};
+/* All semigroups of a genus through a buffer. */
+void paper_words(unsigned genus, uint64_t *words, size_t length, void (*full)(const uint64_t *, size_t, void *), void *to) {
+  struct sink k = {words, length, 0, full, to};
   if (genus == 0)
     k.words[k.used++] = 0;
   else
     walk(genus, 1, 3, 2, 1, 2, &k);
   flush(&k);
-  *mixed = k.mixed;
-  return k.total;
+}
+
+struct mixture {
+  uint64_t total, mixed;
+};
+
+/* A full buffer is read once, as a caller would. */
+static void mix(const uint64_t *words, size_t count, void *to) {
+  struct mixture *m = to;
+  for (size_t i = 0; i < count; i++) m->mixed = m->mixed * 31 + words[i];
+  m->total += count;
+}
+
+/* How many semigroups of a genus there are, and a number mixed from their words in order. */
+uint64_t paper_walk(unsigned genus, uint64_t *words, size_t length, uint64_t *mixed) {
+  struct mixture m = {0, 0};
+  paper_words(genus, words, length, mix, &m);
+  *mixed = m.mixed;
+  return m.total;
 }

@@ -1,5 +1,6 @@
-//! The tree of semigroups by seed tables in plain Rust, as one would write it for speed without proofs: children by the bits of
-//! the table's first row, the last level without tables. And a look at a word that tries every element for its sums.
+//! The tree of semigroups by seed tables in plain Rust, as one would write it for speed without proofs: children by the bits of the
+//! table's first row, raking by doubling, no call for a child without children, and the last two levels from rows 0 and 1 alone. And a look
+//! at a word that tries every element for its sums.
 #![crate_type = "staticlib"]
 
 #[derive(Clone, Copy)]
@@ -20,12 +21,25 @@ impl Node {
         self.table & (self.word ^ (self.word + 1))
     }
 
+    fn multiplicity(self) -> u32 {
+        self.word.trailing_ones() + 1
+    }
+
+    /// What rows 0 and 1 have in common, where the conductor is above the multiplicity.
+    fn seeds(self) -> u64 {
+        let later = self.word >> self.multiplicity();
+        self.first_row() & (self.table >> self.multiplicity()) & (later ^ (later + 1))
+    }
+
     fn child(self, d: u32) -> Node {
-        let mut rake = self.word;
         let mut table = self.table;
-        for _ in 0..d {
-            rake <<= 1;
-            table &= rake;
+        if d != 0 {
+            let (mut moved, mut done) = (self.word << 1, 1);
+            while done < d - done {
+                moved &= moved << done;
+                done += done;
+            }
+            table &= moved & moved << (d - done);
         }
         let c = self.conductor + d;
         Node {
@@ -41,9 +55,16 @@ fn count(n: Node, left: u32) -> u64 {
     if left == 1 {
         return row.count_ones() as u64;
     }
+    if left == 2 && n.multiplicity() < n.conductor {
+        let k = row.count_ones() as u64;
+        return (k * k - k) / 2 + n.seeds().count_ones() as u64;
+    }
     let mut sum = 0;
     while row != 0 {
-        sum += count(n.child(row.trailing_zeros()), left - 1);
+        let child = n.child(row.trailing_zeros());
+        if child.first_row() != 0 {
+            sum += count(child, left - 1);
+        }
         row &= row - 1;
     }
     sum
@@ -63,12 +84,18 @@ struct Sink<'a> {
 }
 
 impl Sink<'_> {
-    fn put(&mut self, word: u64) {
-        if self.used == self.words.len() {
+    /// The word with each of the bits; the buffer has 64 places or more.
+    fn put(&mut self, word: u64, bits: u64) {
+        if self.words.len() < self.used + 64 {
             self.flush();
         }
-        self.words[self.used] = word;
-        self.used += 1;
+        let mut rest = bits;
+        while rest != 0 {
+            let later = rest & (rest - 1);
+            self.words[self.used] = word | (rest ^ later);
+            self.used += 1;
+            rest = later;
+        }
     }
 
     fn flush(&mut self) {
@@ -81,19 +108,32 @@ impl Sink<'_> {
 }
 
 fn walk(n: Node, left: u32, sink: &mut Sink) {
+    let up = n.conductor - 1;
     let mut row = n.first_row();
-    while row != 0 {
-        let d = row.trailing_zeros();
-        row &= row - 1;
-        if left == 1 {
-            sink.put(n.word | 1 << (n.conductor + d - 1));
-        } else {
-            walk(n.child(d), left - 1, sink);
+    if left == 1 {
+        return sink.put(n.word, row << up);
+    }
+    if left == 2 && n.multiplicity() < n.conductor {
+        let seeds = n.seeds() << up;
+        let mut rest = row << up;
+        while rest != 0 {
+            let later = rest & (rest - 1);
+            let e = rest ^ later;
+            sink.put(n.word | e, later | (seeds & e) << n.multiplicity());
+            rest = later;
         }
+        return;
+    }
+    while row != 0 {
+        let child = n.child(row.trailing_zeros());
+        if child.first_row() != 0 {
+            walk(child, left - 1, sink);
+        }
+        row &= row - 1;
     }
 }
 
-/// All semigroups of a genus through a buffer: how many, and a number mixed from their words in order.
+/// All semigroups of a genus through a buffer of 64 places or more: how many, and a number mixed from their words in order.
 #[no_mangle]
 pub unsafe extern "C" fn plain_walk(genus: u32, words: *mut u64, length: usize, mixed: *mut u64) -> u64 {
     let mut sink = Sink {
@@ -103,8 +143,8 @@ pub unsafe extern "C" fn plain_walk(genus: u32, words: *mut u64, length: usize, 
         mixed: 0,
     };
     match genus {
-        0 => sink.put(0),
-        1 => sink.put(1),
+        0 => sink.total = 1,
+        1 => sink.put(0, 1),
         _ => walk(FIRST, genus - 1, &mut sink),
     }
     sink.flush();

@@ -252,8 +252,14 @@ static double slowest_search(unsigned genus) {
   return slowest;
 }
 
+/* The number of semigroups and the times of the same work by the three. */
+struct times {
+  uint64_t number;
+  double ours, paper, plain;
+};
+
 /* One row of the table: the same work by the three, with the same results. */
-static void row(const char *name, unsigned genus, work *ours, work *paper, work *plain) {
+static struct times row(const char *name, unsigned genus, work *ours, work *paper, work *plain) {
   uint64_t a, b, c, x, y, z;
   double o = time_of(ours, genus, LENGTH, &a, &x), p = time_of(paper, genus, LENGTH, &b, &y), r = time_of(plain, genus, LENGTH, &c, &z);
   if (a != b || a != c || x != y || x != z) {
@@ -261,6 +267,13 @@ static void row(const char *name, unsigned genus, work *ours, work *paper, work 
     exit(1);
   }
   printf("%-7u %-6s %12" PRIu64 " %10.2f %10.2f %10.2f %9.2f %9.2f\n", genus, name, a, o * 1e3, p * 1e3, r * 1e3, o / p, o / r);
+  return (struct times){a, o, p, r};
+}
+
+/* How many times the time a work takes at a larger genus, beside how many times the semigroups there are. */
+static void growth_row(const char *name, struct times from, struct times to) {
+  printf("%s: %.1f times the semigroups, ours %.1f times the time, the paper's %.1f, plain Rust %.1f\n", name,
+         (double)to.number / (double)from.number, to.ours / from.ours, to.paper / from.paper, to.plain / from.plain);
 }
 
 /* The census of a genus as a ratio to the walk, which has so many words. */
@@ -310,10 +323,13 @@ static void look_row(const char *name) {
 int main(void) {
   static const unsigned genera[] = {24, 28, 32};
   printf("%-7s %-6s %12s %10s %10s %10s %9s %9s\n", "genus", "work", "semigroups", "ours ms", "paper ms", "Rust ms", "to paper", "to Rust");
+  struct times counts[3], walks[3];
   for (int i = 0; i < 3; i++) {
-    row("count", genera[i], our_counted, paper_counted, plain_counted);
-    row("walk", genera[i], our_walk, paper_walk, plain_walk);
+    counts[i] = row("count", genera[i], our_counted, paper_counted, plain_counted);
+    walks[i] = row("walk", genera[i], our_walk, paper_walk, plain_walk);
   }
+  growth_row("count from genus 24 to 32", counts[0], counts[2]);
+  growth_row("walk from genus 24 to 32", walks[0], walks[2]);
   uint64_t total, mixed;
   double walk = time_of(our_walk, 24, LENGTH, &total, &mixed);
   census_row(24, walk, total);

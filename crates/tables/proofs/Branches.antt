@@ -195,6 +195,10 @@ row-branches r n h at e =
       all = ap (λ (k : ℕ). leaves k (n .word)) (lower ∙ add-one (r - 1)) ∙ leaves-row (r - 1) (n .word) (firstRow n) (first-row-offsets (r - 1) n node-levels);
     }
 
+-- where it is empty there is no word below
+pub no-leaves : (r : ℕ) (n : Node) → ¬ (r ≡ 0) → NodeWithLevels r n → {row : ℕ} → row ≡ firstRow n → row ≡ 0 → leaves r (n .word) ≡ []
+no-leaves r n h at e none = row-branches r n h at e .all ∙ ap (branches (r - 1) (n .word)) none ∙ branches-none (r - 1) (n .word)
+
 -- ---- the first of some children
 
 -- m is the child at the lowest of the offsets in bits, and rest has the others

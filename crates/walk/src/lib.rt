@@ -91,8 +91,9 @@ fn count_node(n: Node, left: u64) -> u64
 }
 
 // How many there are `left` levels below those children of a node whose offsets are the bits of `row`: the count of the first child plus the
-// sum from the next on.
+// sum from the next on. A child without generators has none.
 fn sum_from(n: Node, row: u64, left: u64) -> u64
+    requires { ⌜ 1 ≤ left ⌝ }
     requires { ⌜ NodeWithLevels (left + 1) n ⌝ }
     requires { ⌜ Offsets (n .word) row ⌝ }
     ensures { λ r. ⌜ r ≡ length (branches left (n .word) row) ⌝ }
@@ -101,7 +102,10 @@ fn sum_from(n: Node, row: u64, left: u64) -> u64
     let mut sum = 0;
     while rest != 0 {
         let low = tables::lowest_of(rest);
-        sum += count_node(n.child(low.at), left);
+        let child = n.child(low.at);
+        if child.first_row() != 0 {
+            sum += count_node(child, left);
+        }
         rest = low.rest;
     }
     sum
@@ -132,7 +136,8 @@ fn put(word: u64, at: usize, out: &mut [u64]) -> Filled
     }
 }
 
-// Writes the children of a word whose new gaps are the bits of a number, and gives the place after them: the list has room for 64.
+// Writes the children of a word whose new gaps are the bits of a number, and gives the place after them. The list, which has room for 64, is
+// not asked for each of them.
 fn put_each(word: u64, bits: u64, from: usize, out: &mut [u64]) -> usize
     requires { ⌜ GapsFit word bits ⌝ }
     requires { ⌜ from + 64 ≤ length (now out) ⌝ }
@@ -149,7 +154,7 @@ fn put_each(word: u64, bits: u64, from: usize, out: &mut [u64]) -> usize
     at
 }
 
-// Writes as many of them as there is room for.
+// Writes these children as long as there is room.
 fn put_while_room(word: u64, bits: u64, from: usize, out: &mut [u64]) -> Filled
     requires { ⌜ GapsFit word bits ⌝ }
     requires { ⌜ from ≤ length (now out) ⌝ }
@@ -169,7 +174,7 @@ fn put_while_room(word: u64, bits: u64, from: usize, out: &mut [u64]) -> Filled
     Filled { at, next: 0 }
 }
 
-// Writes them, and asks the list for each word only where it may run out.
+// Writes these children; the list is asked for each of them only where it has fewer than 64 places left.
 fn put_bits(word: u64, bits: u64, at: usize, out: &mut [u64]) -> Filled
     requires { ⌜ GapsFit word bits ⌝ }
     requires { ⌜ at ≤ length (now out) ⌝ }
@@ -222,7 +227,7 @@ fn put_grandchildren(n: Node, from: usize, out: &mut [u64]) -> Filled
     Filled { at, next: 0 }
 }
 
-// Writes the words `left` levels below a node.
+// Writes the words `left` levels below a node; without generators it has none.
 fn emit(n: Node, left: u64, at: usize, out: &mut [u64]) -> Filled
     requires { ⌜ NodeWithLevels left n ⌝ }
     requires { ⌜ at ≤ length (now out) ⌝ }
@@ -236,7 +241,11 @@ fn emit(n: Node, left: u64, at: usize, out: &mut [u64]) -> Filled
             return put_grandchildren(n, at, out);
         }
     }
-    emit_from(n, n.first_row(), left - 1, at, out)
+    let row = n.first_row();
+    if row == 0 {
+        return Filled { at, next: 0 };
+    }
+    emit_from(n, row, left - 1, at, out)
 }
 
 // Writes those `left` levels below the children of a node whose offsets are the bits of `row`.

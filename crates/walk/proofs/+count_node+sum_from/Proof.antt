@@ -10,7 +10,7 @@ use Rattle.words.specs.Tree.{leaves}
 use Rattle.tables.specs.Levels.{NodeWithLevels}
 use Rattle.tables.specs.Branches.{branches, Offsets}
 use Rattle.tables.proofs.Levels.{node-conductor, node-generators}
-use Rattle.tables.proofs.Branches.{TakenOff, taken-off, branches-none, levels-below, Row, row-branches, FirstChild, first-child}
+use Rattle.tables.proofs.Branches.{TakenOff, taken-off, branches-none, levels-below, Row, row-branches, no-leaves, FirstChild, first-child}
 use Rattle.walk.proofs.BranchCounts.{length-children, length-grandchildren, branches-fit}
 use Rattle.walk.proofs.count_node.Reads as count-node
 use Rattle.walk.proofs.count_node.Kinds as count-node-kinds
@@ -56,7 +56,7 @@ abbrev sum-from-μ-loop : sum-from-lts.MeasureT-loop
 sum-from-μ-loop n row left rest₀ sum₀ rest sum = rest
 
 abbrev sum-from-claims : ℕ → sum-from-lts.Claims
-sum-from-claims t = (lowest-of-reads.Asked, lowest-of-reads.Learnt, child-reads.Asked, child-reads.Learnt, count-node-below t, count-node.Post)
+sum-from-claims t = (lowest-of-reads.Asked, lowest-of-reads.Learnt, child-reads.Asked, child-reads.Learnt, first-row-reads.Asked, first-row-reads.Learnt, count-node-below t, count-node.Post)
 
 module _ (t : ℕ) where
   -- ---- count_node
@@ -86,7 +86,7 @@ module _ (t : ℕ) where
   row c = row-branches _ _ (c .before .before .before .if1 .left) (c .before .before .before .before .pre .1) (c .first-row .ensures)
 
   count-node-sum-from-requires : count-node-lts.Need-sum-from-requires (count-node-claims t) (count-node-at t) count-node.Post
-  count-node-sum-from-requires c κs = (omega arith, (row c .node-levels, row c .offsets))
+  count-node-sum-from-requires c κs = (omega arith, (omega arith, (row c .node-levels, row c .offsets)))
 
   count-node-returns-4 : count-node-lts.Need-returns-4 (count-node-claims t) (count-node-at t) count-node.Post
   count-node-returns-4 c = omega (arith, c .sum-from .ensures, ap length (row (c .before) .all))
@@ -94,7 +94,7 @@ module _ (t : ℕ) where
   -- ---- sum_from
 
   sum-from-loop-holds : sum-from-lts.Need-loop-holds (sum-from-claims t) (sum-from-at t) sum-from.Post sum-from-Inv-loop sum-from-μ-loop
-  sum-from-loop-holds c = (c .fits .row .fits, c .pre .1 .1, omega arith)
+  sum-from-loop-holds c = (c .fits .row .fits, c .pre .1 .1 .1, omega arith)
 
   -- the lowest offset, taken off the others
   lowest : (c : sum-from-lts.After-lowest-of (sum-from-claims t) (sum-from-at t) sum-from.Post sum-from-Inv-loop sum-from-μ-loop)
@@ -103,37 +103,46 @@ module _ (t : ℕ) where
 
   -- the child at the lowest offset, and the others
   first : (c : sum-from-lts.After-child (sum-from-claims t) (sum-from-at t) sum-from.Post sum-from-Inv-loop sum-from-μ-loop) →
-      let low = c .before in
-      let at = low .before .before in
-      FirstChild (at .before .args .left) (at .before .args .n) (c .child .result) (at .loop .rest) (low .lowest-of .result .rest)
+      let at = c .before .before .before in
+      FirstChild (at .before .args .left) (at .before .args .n) (c .child .result) (at .loop .rest) (c .before .lowest-of .result .rest)
   first c =
-      let low = c .before in
-      let at = low .before .before in
-      first-child _ _ (at .before .pre .1 .0) (at .loop .inv .1) (lowest low) (c .child .ensures)
+      let at = c .before .before .before in
+      first-child _ _ (at .before .pre .1 .1 .0) (at .loop .inv .1) (lowest (c .before)) (c .child .ensures)
+
+  -- the words below it and below the others make, with what was counted, the count over the row
+  parts : (c : sum-from-lts.After-child (sum-from-claims t) (sum-from-at t) sum-from.Post sum-from-Inv-loop sum-from-μ-loop) →
+      let at = c .before .before .before in
+      let args = at .before .args in
+      at .loop .sum + length (leaves (args .left) (c .child .result .word)) + length (branches (args .left) (args .n .word) (c .before .lowest-of .result .rest))
+      ≡ length (branches (args .left) (args .n .word) (args .row))
+  parts c = omega (arith, simp length-append at (ap length (first c .parts)), c .before .before .before .loop .inv .2)
+
+  -- without generators there is none below it
+  none : (c : sum-from-lts.Else1 (sum-from-claims t) (sum-from-at t) sum-from.Post sum-from-Inv-loop sum-from-μ-loop) →
+      let at-child = c .before .before in length (leaves (at-child .before .before .before .before .args .left) (at-child .child .result .word)) ≡ 0
+  none c =
+      let at-child = c .before .before in
+      let start = at-child .before .before .before .before in
+      ap length (no-leaves _ _ (λ e. omega (arith, start .pre .1 .0)) (first at-child .node-levels) (c .before .first-row .ensures) (omega (arith, c .if1 .left)))
 
   sum-from-count-node-requires : sum-from-lts.Need-count-node-requires (sum-from-claims t) (sum-from-at t) sum-from.Post sum-from-Inv-loop sum-from-μ-loop
-  sum-from-count-node-requires c κs = (omega arith, first c .node-levels)
-
-  -- its count and that of the others make, with what was counted, the count over the row
-  counted : (c : sum-from-lts.After-count-node (sum-from-claims t) (sum-from-at t) sum-from.Post sum-from-Inv-loop sum-from-μ-loop) →
-      let low = c .before .before in
-      let at = low .before .before in
-      let args = at .before .args in
-      at .loop .sum + c .count-node .result + length (branches (args .left) (args .n .word) (low .lowest-of .result .rest)) ≡ length (branches (args .left) (args .n .word) (args .row))
-  counted c = omega (arith, c .count-node .ensures, simp length-append at (ap length (first (c .before) .parts)))
+  sum-from-count-node-requires c κs = (omega arith, first (c .before .before) .node-levels)
 
   sum-from-add-sum : sum-from-lts.Need-add-sum (sum-from-claims t) (sum-from-at t) sum-from.Post sum-from-Inv-loop sum-from-μ-loop
   sum-from-add-sum c =
-      let start = c .before .before .before .before .before in
-      omega (arith, counted c, branches-fit _ _ _ (levels-below _ _ (start .pre .1 .0)) (start .pre .1 .1))
-
-  sum-from-loop-less : sum-from-lts.Need-loop-less (sum-from-claims t) (sum-from-at t) sum-from.Post sum-from-Inv-loop sum-from-μ-loop
-  sum-from-loop-less c = lowest (c .before .before) .fewer
+      let at-child = c .before .before .before in
+      let start = at-child .before .before .before .before in
+      omega (arith, c .count-node .ensures, parts at-child, branches-fit _ _ _ (levels-below _ _ (start .pre .1 .1 .0)) (start .pre .1 .1 .1))
 
   sum-from-loop-again : sum-from-lts.Need-loop-again (sum-from-claims t) (sum-from-at t) sum-from.Post sum-from-Inv-loop sum-from-μ-loop
   sum-from-loop-again c =
-      let low = c .before .before in
-      (omega (arith, lowest low .fewer), first (c .before) .others, counted c)
+      let at-child = c .before .before .before in
+      (omega (arith, lowest (at-child .before) .fewer), first at-child .others, omega (arith, c .count-node .ensures, parts at-child))
+
+  sum-from-loop-again-2 : sum-from-lts.Need-loop-again-2 (sum-from-claims t) (sum-from-at t) sum-from.Post sum-from-Inv-loop sum-from-μ-loop
+  sum-from-loop-again-2 c =
+      let at-child = c .before .before in
+      (omega (arith, lowest (at-child .before) .fewer), first at-child .others, omega (arith, none c, parts at-child))
 
   sum-from-returns : sum-from-lts.Need-returns (sum-from-claims t) (sum-from-at t) sum-from.Post sum-from-Inv-loop sum-from-μ-loop
   sum-from-returns c =
@@ -158,8 +167,11 @@ pub +count-node+sum-from-spec : {M : Type 1} → statement M
     (sum-from-loop-holds t)
     (λ c κs. omega arith)
     (λ c κs. tt)
+    (λ c κs. tt)
     (sum-from-count-node-requires t)
     (sum-from-add-sum t)
-    (sum-from-loop-less t)
+    (λ c. lowest t (c .before .before .before .before) .fewer)
     (sum-from-loop-again t)
+    (λ c. lowest t (c .before .before .before) .fewer)
+    (sum-from-loop-again-2 t)
     (sum-from-returns t)

@@ -13,7 +13,7 @@ use Rattle.words.specs.Tree.{leaves}
 use Rattle.tables.specs.Levels.{NodeWithLevels}
 use Rattle.tables.specs.Branches.{branches, Offsets}
 use Rattle.tables.proofs.Levels.{node-conductor}
-use Rattle.tables.proofs.Branches.{TakenOff, taken-off, branches-none, Row, row-branches, FirstChild, first-child}
+use Rattle.tables.proofs.Branches.{TakenOff, taken-off, branches-none, Row, row-branches, no-leaves, FirstChild, first-child}
 use Rattle.walk.specs.Lending.{upTo, putAll}
 use Rattle.walk.proofs.Lending.{put-stops, put-follows}
 use Rattle.walk.proofs.emit.Reads as emit
@@ -86,13 +86,18 @@ module _ (t : ℕ) where
       let start = c .before .before .before .before in Row (start .args .left) (start .args .n) (c .first-row .result)
   row c = row-branches _ _ (c .before .before .if1 .left) (c .before .before .before .before .pre .1 .0) (c .first-row .ensures)
 
+  -- without generators there is no word below it
+  emit-returns-3 : emit-lts.Need-returns-3 (emit-claims t) (emit-at t) emit.Post
+  unfolding putAll
+  emit-returns-3 c = rw (no-leaves _ _ (c .before .before .before .if1 .left) (c .before .before .before .before .before .pre .1 .0) (c .before .first-row .ensures) (c .if4 .taken))
+
   emit-emit-from-requires : emit-lts.Need-emit-from-requires (emit-claims t) (emit-at t) emit.Post
   emit-emit-from-requires c κs =
-      let found = row (c .before) in
-      (omega arith, (found .node-levels, (found .offsets, c .before .before .before .before .before .pre .1 .1)))
+      let found = row (c .before .before) in
+      (omega arith, (found .node-levels, (found .offsets, c .before .before .before .before .before .before .pre .1 .1)))
 
-  emit-returns-3 : emit-lts.Need-returns-3 (emit-claims t) (emit-at t) emit.Post
-  emit-returns-3 c = rw (row (c .before .before .before .before) .all) (c .before .before .emit-from .ensures)
+  emit-returns-4 : emit-lts.Need-returns-4 (emit-claims t) (emit-at t) emit.Post
+  emit-returns-4 c = rw (row (c .before .before .before .before .before) .all) (c .before .before .emit-from .ensures)
 
   -- ---- emit_from
 
@@ -164,10 +169,11 @@ pub +emit+emit-from-spec : {M : Type 1} → statement M
     (λ c. search needs)
     (emit-returns-2 t)
     (λ c κs. tt)
+    (emit-returns-3 t)
     (λ c. omega arith)
     (emit-emit-from-requires t)
     (λ c. search needs)
-    (emit-returns-3 t))
+    (emit-returns-4 t))
     λ t. emit-from-lts.spec (emit-from-claims t) (emit-from-at t) emit-from.Post
     emit-from-Inv-loop
     emit-from-μ-loop
