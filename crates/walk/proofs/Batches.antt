@@ -65,17 +65,19 @@ walk-leaf w fits small ordered going =
 
 -- ---- endings
 
--- the ending of a batch with the walk w, with what was told of the lent list: is there a word without room, and how many were written
-abbrev pub more : Lent → Bool
-more t = ltb (length (t .0)) (t .1 .at)
+-- did a word find no room
+abbrev pub anyLeft : Lent → Bool
+anyLeft t = ltb (length (t .0)) (t .1 .at)
 
-abbrev pub written : Lent → ℕ
-written t = cond (more t) (length (t .0)) (t .1 .at)
+-- how many words were written
+abbrev pub writtenCount : Lent → ℕ
+writtenCount t = cond (anyLeft t) (length (t .0)) (t .1 .at)
 
+-- the ending of a batch with the walk w, with what was told of the lent list
 abbrev pub put-ending : Walk → Lent → Ending
 put-ending w t = record {
-  answer = given record { count = written t; finished = not (more t) };
-  walk = record { genus = w .genus; word = t .1 .next; lowest = w .lowest; highest = w .highest; finished = not (more t) };
+  answer = given record { count = writtenCount t; finished = not (anyLeft t) };
+  walk = record { genus = w .genus; word = t .1 .next; lowest = w .lowest; highest = w .highest; finished = not (anyLeft t) };
   list = t .0;
 }
 

@@ -23,21 +23,21 @@ use Rattle.walk.specs.NewGaps.{gapBranches, GapsFit}
 -- ---- one by one
 
 -- no gap, no branch
-pub gaps-none : (r w : ℕ) → gapBranches r w 0 ≡ []
+pub gap-branches-none : (r w : ℕ) → gapBranches r w 0 ≡ []
 unfolding gapBranches joined
-gaps-none r w = ap (joined (λ i. leaves r (childWord w (suc i)))) positions-zero
+gap-branches-none r w = ap (joined (λ i. leaves r (childWord w (suc i)))) positions-zero
 
 -- at is the lowest of the bits, and rest has the others
 module _ (w : ℕ) {bits at rest : ℕ} (low : TakenOff bits at rest) where
   -- the branch there comes first
-  pub gaps-first : (r : ℕ) → gapBranches r w bits ≡ leaves r (childWord w (suc at)) ++ gapBranches r w rest
+  pub gap-branches-first : (r : ℕ) → gapBranches r w bits ≡ leaves r (childWord w (suc at)) ++ gapBranches r w rest
   unfolding gapBranches joined
-  gaps-first r = ap (joined (λ i. leaves r (childWord w (suc i)))) (low .first)
+  gap-branches-first r = ap (joined (λ i. leaves r (childWord w (suc i)))) (low .first)
 
   -- its word is made by the lowest bit
-  pub gaps-word : w + (bits - rest) ≡ childWord w (suc at)
+  pub gap-word : w + (bits - rest) ≡ childWord w (suc at)
   unfolding childWord
-  gaps-word = let last : at ≡ suc at - 1 = omega arith in ap (λ (k : ℕ). w + k) (low .value ∙ ap (λ (k : ℕ). 2 ^ k) last)
+  gap-word = let last : at ≡ suc at - 1 = omega arith in ap (λ (k : ℕ). w + k) (low .value ∙ ap (λ (k : ℕ). 2 ^ k) last)
 
   -- and has 64 bits
   pub fits-first : GapsFit w bits → childWord w (suc at) < 2 ^ 64
@@ -50,17 +50,18 @@ module _ (w : ℕ) {bits at rest : ℕ} (low : TakenOff bits at rest) where
 -- ---- from offsets
 
 module _ (r w row : ℕ) (at : Levels (suc r) w) (offsets : Offsets w row) where
-  -- the offset d from the conductor c is the gap c + d, which is bit c - 1 + d
+  -- the offset d from the conductor c is at bit c - 1 + d
   pub positions-moved : positions (row * 2 ^ (conductor w - 1) % 2 ^ 64) ≡ map (λ d. conductor w - 1 + d) (positions row)
   positions-moved = positions-shl row (conductor w - 1) (λ d m. omega (arith, child-of r w at (offsets d m) .low, conductor-pos w))
 
+  -- bit c - 1 + d is the gap c + d
   gap : (d : ℕ) → suc (conductor w - 1 + d) ≡ conductor w + d
   gap d = omega (arith, conductor-pos w)
 
   -- the branches at some offsets are those at their bits
-  pub gaps-moved : gapBranches r w (row * 2 ^ (conductor w - 1) % 2 ^ 64) ≡ branches r w row
+  pub gap-branches-moved : gapBranches r w (row * 2 ^ (conductor w - 1) % 2 ^ 64) ≡ branches r w row
   unfolding gapBranches branches
-  gaps-moved =
+  gap-branches-moved =
       ap (joined (λ i. leaves r (childWord w (suc i)))) positions-moved ∙ joined-map _ (λ d. conductor w - 1 + d) (positions row)
       ∙ joined-cong _ _ (positions row) (λ d m. ap (λ (x : ℕ). leaves r (childWord w x)) (gap d))
 
@@ -75,7 +76,7 @@ pub node-gaps : (r : ℕ) (n : Node) (row : ℕ) → NodeWithLevels (r + 1) n �
     let bits = row * 2 ^ (n .conductor - 1) % 2 ^ 64 in (gapBranches r (n .word) bits ≡ branches r (n .word) row) × GapsFit (n .word) bits
 node-gaps r n row at offsets =
     let here = levels-below r n at in
-    rw (node-conductor _ n at) (gaps-moved r (n .word) row here offsets, fits-moved r (n .word) row here offsets)
+    rw (node-conductor _ n at) (gap-branches-moved r (n .word) row here offsets, fits-moved r (n .word) row here offsets)
 
 -- ---- the bits from one of them on
 
@@ -90,6 +91,7 @@ pub upper-all : {n : ℕ} → n < 2 ^ 64 → Upper n n
 upper-all {n} fits = record { fits = fits; from = 0; cleared = omega (arith, div-one n) }
 
 module _ {n bits at rest : ℕ} (u : Upper n bits) (some : 0 < bits) (e : (at ≡ lowestOffset bits) × (rest ≡ bits - 2 ^ lowestOffset bits)) where
+  -- it has 64 bits, too
   small : bits < 2 ^ 64
   small = omega (arith, u .fits, u .cleared, div-mul-le-self n (2 ^ u .from))
 
@@ -109,5 +111,6 @@ module _ {n bits at rest : ℕ} (u : Upper n bits) (some : 0 < bits) (e : (at �
       let low : at ≡ trailingZeros 64 (n / 2 ^ u .from * 2 ^ u .from) = e .0 ∙ lowest-trailing bits some small ∙ ap (trailingZeros 64) (u .cleared) in
       e .1 ∙ ap (λ (k : ℕ). bits - 2 ^ k) (sym (e .0)) ∙ rw (u .cleared, low) (above-lowest n (u .from) (u .fits) (subst (λ (b : ℕ). 0 < b) (u .cleared) some))
 
+  -- from a higher position on
   pub upper-again : Upper n rest
   upper-again = record { fits = u .fits; from = at + 1; cleared = upper-rest }

@@ -28,15 +28,15 @@ use Rattle.tables.proofs.Levels.{node-conductor}
 use Rattle.tables.proofs.Branches.{leaves-row, offsets-row}
 use Rattle.tables.proofs.RowsBelow.{childRow, child-there, child-levels-there, generators-there}
 use Rattle.walk.specs.NewGaps.{gapBranches, GapsFit}
-use Rattle.walk.proofs.NewGaps.{positions-moved, gaps-moved, fits-moved}
+use Rattle.walk.proofs.NewGaps.{positions-moved, gap-branches-moved, fits-moved}
 
 -- ---- row 0 of a child, moved up to its conductor
 
 -- the new gaps below the child without the generator of bit i: the later generators and, where it is a seed, that m places on
-abbrev pub gapsBelow : ℕ → ℕ → ℕ → ℕ → ℕ
-gapsBelow m generators seeds i = bitOr (above generators i) (bitAnd seeds (2 ^ i) * 2 ^ m % 2 ^ 64)
+abbrev pub newGaps : ℕ → ℕ → ℕ → ℕ → ℕ
+newGaps m generators seeds i = bitOr (above generators i) (bitAnd seeds (2 ^ i) * 2 ^ m % 2 ^ 64)
 
--- row is row 0 of a word with conductor c, seeds has what rows 0 and 1 have in common, and d is the offset of e
+-- row is row 0 of a word with conductor c, seeds has what rows 0 and 1 have in common, and d is the offset of the generator e
 module _ (row seeds m c d : ℕ) (pos : 0 < c) (some : 0 < m) where
   -- the bit of e
   abbrev i : ℕ
@@ -62,11 +62,10 @@ module _ (row seeds m c d : ℕ) (pos : 0 < c) (some : 0 < m) where
         ∙ bit-digit-at (bit both i) (i + m) k ∙ ap (λ (b : Bool). eqb k (i + m) && b) (moved-bit seeds d (omega arith))
 
     -- row 0 of the child at d, moved up to its conductor, has these gaps
-    pub child-row-moved : gapsBelow m (row * 2 ^ (c - 1) % 2 ^ 64) (seeds * 2 ^ (c - 1) % 2 ^ 64) (c - 1 + d) ≡ rowOfChild row seeds m d * 2 ^ (c + d) % 2 ^ 64
+    pub child-row-moved : newGaps m (row * 2 ^ (c - 1) % 2 ^ 64) (seeds * 2 ^ (c - 1) % 2 ^ 64) (c - 1 + d) ≡ rowOfChild row seeds m d * 2 ^ (c + d) % 2 ^ 64
     unfolding rowOfChild
     child-row-moved =
-        bits-decide 64 (bitOr (above up i) (bitAnd both (2 ^ i) * 2 ^ m % 2 ^ 64)) (bitOr (row / 2 ^ (d + 1)) (digit (bit seeds d) * 2 ^ (m - 1)) * 2 ^ (c + d) % 2 ^ 64)
-        (or-lt 64 (above up i) (bitAnd both (2 ^ i) * 2 ^ m % 2 ^ 64) (omega (arith, div-mul-le-self up (2 ^ (i + 1)))) (mod-lt _ (pow-pos 64))) (mod-lt _ (pow-pos 64))
+        bits-decide 64 _ _ (or-lt 64 (above up i) _ (omega (arith, div-mul-le-self up (2 ^ (i + 1)))) (mod-lt _ (pow-pos 64))) (mod-lt _ (pow-pos 64))
         (λ k h.
         bit-or (above up i) (bitAnd both (2 ^ i) * 2 ^ m % 2 ^ 64) k ∙ ap (λ (b : Bool). bit (above up i) k || b) (seed-bit k h)
         ∙ elim (decLt k (c + d)) [
@@ -75,6 +74,7 @@ module _ (row seeds m c d : ℕ) (pos : 0 < c) (some : 0 < m) where
         ]
         ∙ sym (bit-mod (child * 2 ^ (c + d)) 64 k h))
       where
+        -- row 0 of the child
         child : ℕ
         child = bitOr (row / 2 ^ (d + 1)) (digit (bit seeds d) * 2 ^ (m - 1))
 
@@ -99,18 +99,19 @@ module _ (row seeds m c d : ℕ) (pos : 0 < c) (some : 0 < m) where
 
 -- ---- the words two levels below a node
 
--- these gaps make the words below the child without the generator of bit i
-pub record ChildTold (w m generators seeds i : ℕ) : Type 0 where
-  pub below : leaves 1 (childWord w (suc i)) ≡ gapBranches 0 (childWord w (suc i)) (gapsBelow m generators seeds i)
-  pub fits : GapsFit (childWord w (suc i)) (gapsBelow m generators seeds i)
+-- the words below the child of w without the generator of bit i are had by these gaps, and have 64 bits
+pub record ChildWords (w m generators seeds i : ℕ) : Type 0 where
+  pub below : leaves 1 (childWord w (suc i)) ≡ gapBranches 0 (childWord w (suc i)) (newGaps m generators seeds i)
+  pub fits : GapsFit (childWord w (suc i)) (newGaps m generators seeds i)
 
--- and they are below the children of w without the generators
-pub record RowsTell (w m generators seeds : ℕ) : Type 0 where
+-- the words two levels below w are those below its children without the generators
+pub record RowWords (w m generators seeds : ℕ) : Type 0 where
   pub all : leaves 2 w ≡ gapBranches 1 w generators
   pub fits : GapsFit w generators
-  pub child : (i : ℕ) → List·Memᴰ i (positions generators) → ChildTold w m generators seeds i
+  pub child : (i : ℕ) → List·Memᴰ i (positions generators) → ChildWords w m generators seeds i
 
 module _ (w : ℕ) (at : Levels 2 w) (later : multiplicity w < conductor w) where
+  -- row 0, and it and the seeds moved up to the conductor
   abbrev row : ℕ
   row = firstRow (nodeOf w)
 
@@ -120,9 +121,11 @@ module _ (w : ℕ) (at : Levels 2 w) (later : multiplicity w < conductor w) wher
   abbrev seeds : ℕ
   seeds = bitAnd row (secondRow (nodeOf w)) * 2 ^ (conductor w - 1) % 2 ^ 64
 
+  -- row 0 has the generators not below the conductor
   row-is : rightGenerators w ≡ map (λ d. conductor w + d) (positions row)
   row-is = first-row-generators w (at .fits) (at .closed) (omega (arith, at .few))
 
+  -- and so their offsets
   offsets : Offsets w row
   offsets = offsets-row 1 w row row-is
 
@@ -131,7 +134,7 @@ module _ (w : ℕ) (at : Levels 2 w) (later : multiplicity w < conductor w) wher
     v = childWord w (conductor w + d)
 
     -- row 0 of the child, moved up to its conductor
-    moved : gapsBelow (multiplicity w) generators seeds (conductor w - 1 + d) ≡ childRow w at later d * 2 ^ (conductor v - 1) % 2 ^ 64
+    moved : newGaps (multiplicity w) generators seeds (conductor w - 1 + d) ≡ childRow w at later d * 2 ^ (conductor v - 1) % 2 ^ 64
     moved =
         let child = child-there w at later d g in
         let next : conductor w + d ≡ conductor v - 1 = omega (arith, child .new-conductor) in
@@ -139,29 +142,29 @@ module _ (w : ℕ) (at : Levels 2 w) (later : multiplicity w < conductor w) wher
         ∙ ap (λ (k : ℕ). childRow w at later d * 2 ^ k % 2 ^ 64) next
 
     -- has the new gaps of the words below it
-    told : ChildTold w (multiplicity w) generators seeds (conductor w - 1 + d)
+    told : ChildWords w (multiplicity w) generators seeds (conductor w - 1 + d)
     told =
         let gap : suc (conductor w - 1 + d) ≡ conductor w + d = omega (arith, conductor-pos w) in
         let there = child-levels-there w at later d g in
         let is = generators-there w at later d g in
         record {
-          below = rw (gap, moved) (leaves-row 0 v (childRow w at later d) is ∙ sym (gaps-moved 0 v (childRow w at later d) there (offsets-row 0 v _ is)));
+          below = rw (gap, moved) (leaves-row 0 v (childRow w at later d) is ∙ sym (gap-branches-moved 0 v (childRow w at later d) there (offsets-row 0 v _ is)));
           fits = rw (gap, moved) (fits-moved 0 v (childRow w at later d) there (offsets-row 0 v _ is));
         }
 
-  -- the rows of the node of w
-  pub rows-of-word : RowsTell w (multiplicity w) (firstRow (nodeOf w) * 2 ^ (conductor w - 1) % 2 ^ 64) (bitAnd (firstRow (nodeOf w)) (secondRow (nodeOf w)) * 2 ^ (conductor w - 1) % 2 ^ 64)
-  rows-of-word = record {
-    all = leaves-row 1 w row row-is ∙ sym (gaps-moved 1 w row at offsets);
+  -- so that rows 0 and 1 of w tell the words two levels below it
+  pub row-words-of : RowWords w (multiplicity w) (firstRow (nodeOf w) * 2 ^ (conductor w - 1) % 2 ^ 64) (bitAnd (firstRow (nodeOf w)) (secondRow (nodeOf w)) * 2 ^ (conductor w - 1) % 2 ^ 64)
+  row-words-of = record {
+    all = leaves-row 1 w row row-is ∙ sym (gap-branches-moved 1 w row at offsets);
     fits = fits-moved 1 w row at offsets;
     child = λ i g.
         let (d, there, e) = Memᴰ·of-map (λ d. conductor w - 1 + d) (positions row) (subst (List·Memᴰ i) (positions-moved 1 w row at offsets) g) in
-        subst (ChildTold w (multiplicity w) generators seeds) e (told d there);
+        subst (ChildWords w (multiplicity w) generators seeds) e (told d there);
   }
 
--- m, and row 0 and what rows 0 and 1 have in common, moved up by the conductor less 1, as they are read off a node
-pub rows-tell : (n : Node) {m row second : ℕ} → NodeWithLevels 2 n → multiplicity (n .word) < conductor (n .word)
+-- the same by m, row 0 and row 1 as they are read off a node
+pub row-words : (n : Node) {m row second : ℕ} → NodeWithLevels 2 n → multiplicity (n .word) < conductor (n .word)
     → m ≡ multiplicity (n .word) → row ≡ firstRow n → second ≡ secondRow n
-    → RowsTell (n .word) m (row * 2 ^ (n .conductor - 1) % 2 ^ 64) (bitAnd row second * 2 ^ (n .conductor - 1) % 2 ^ 64)
+    → RowWords (n .word) m (row * 2 ^ (n .conductor - 1) % 2 ^ 64) (bitAnd row second * 2 ^ (n .conductor - 1) % 2 ^ 64)
 unfolding nodeOf
-rows-tell n at later multiplicity-is first-is second-is = rw (multiplicity-is, first-is, second-is, node-conductor 2 n at, at .node) (rows-of-word (n .word) (at .levels) later)
+row-words n at later multiplicity-is first-is second-is = rw (multiplicity-is, first-is, second-is, node-conductor 2 n at, at .node) (row-words-of (n .word) (at .levels) later)

@@ -13,7 +13,7 @@ use Rattle.tables.proofs.Branches.{TakenOff, taken-off}
 use Rattle.walk.specs.Lending.{upTo, putAll}
 use Rattle.walk.specs.NewGaps.{gapBranches, GapsFit}
 use Rattle.walk.proofs.Lending.{put-room}
-use Rattle.walk.proofs.NewGaps.{gaps-none, gaps-first, gaps-word, fits-first, fits-rest}
+use Rattle.walk.proofs.NewGaps.{gap-branches-none, gap-branches-first, gap-word, fits-first, fits-rest}
 use Rattle.walk.proofs.put_each.Statement.{statement}
 use Rattle.walk.proofs.put_each.Tie as tie
 
@@ -37,7 +37,7 @@ room c = omega (arith, ap length (lowest c .first), c .before .before .loop .inv
 put-first : (w : ℕ) {bits i rest : ℕ} → TakenOff bits i rest → (o : List ℕ) (at : ℕ) → at < length o
     → putAll (gapBranches 0 w bits) (o, upTo at) ≡ putAll (gapBranches 0 w rest) (set o at (childWord w (suc i)), upTo (at + 1))
 unfolding leaves putAll
-put-first w {bits} {i} {rest} low o at h = ap (λ (l : List ℕ). putAll l (o, upTo at)) (gaps-first w low 0) ∙ ap (putAll (gapBranches 0 w rest)) (put-room (childWord w (suc i)) (o, upTo at) h)
+put-first w {bits} {i} {rest} low o at h = ap (λ (l : List ℕ). putAll l (o, upTo at)) (gap-branches-first w low 0) ∙ ap (putAll (gapBranches 0 w rest)) (put-room (childWord w (suc i)) (o, upTo at) h)
 
 loop-holds : tie.Need-loop-holds Inv-loop μ-loop
 loop-holds c = (c .before .fits .bits .fits, c .before .pre .0, omega (arith, positions-le (c .before .args .bits), c .before .pre .1), refl, refl)
@@ -46,7 +46,7 @@ sub-out : tie.Need-sub-out Inv-loop μ-loop
 sub-out c = omega (arith, lowest (c .before) .fewer)
 
 add-out : tie.Need-add-out Inv-loop μ-loop
-add-out c = rw (gaps-word _ (lowest (c .before))) record { fits = fits-first _ (lowest (c .before)) (c .before .before .before .loop .inv .1) }
+add-out c = rw (gap-word _ (lowest (c .before))) record { fits = fits-first _ (lowest (c .before)) (c .before .before .before .loop .inv .1) }
 
 loop-again : tie.Need-loop-again Inv-loop μ-loop
 loop-again c =
@@ -55,12 +55,12 @@ loop-again c =
       fits-rest _ (lowest (c .before)) (at .inv .1),
       rw (length-set (at .out) (at .at) _) (room (c .before)),
       length-set (at .out) (at .at) _ ∙ at .inv .3,
-      rw (gaps-word _ (lowest (c .before))) (sym (put-first _ (lowest (c .before)) _ _ (omega (arith, room (c .before))))) ∙ at .inv .4,
+      rw (gap-word _ (lowest (c .before))) (sym (put-first _ (lowest (c .before)) _ _ (omega (arith, room (c .before))))) ∙ at .inv .4,
     )
 
 returns : tie.Need-returns Inv-loop μ-loop
 unfolding putAll
-returns c = rw (c .loop-test .left, gaps-none) at (c .before .loop .inv .4)
+returns c = rw (c .loop-test .left, gap-branches-none) at (c .before .loop .inv .4)
 
 pub put-each-spec : {M : Type 1} → statement M
 put-each-spec =

@@ -18,8 +18,8 @@ use Rattle.tables.proofs.Branches.{TakenOff}
 use Rattle.walk.specs.Lending.{upTo, putAll}
 use Rattle.walk.specs.NewGaps.{gapBranches}
 use Rattle.walk.proofs.Lending.{put-stops, put-follows}
-use Rattle.walk.proofs.NewGaps.{Upper, upper-all, upper-lowest, upper-bit, upper-rest, upper-again, gaps-none, gaps-first, gaps-word}
-use Rattle.walk.proofs.RowGaps.{ChildTold, RowsTell, rows-tell}
+use Rattle.walk.proofs.NewGaps.{Upper, upper-all, upper-lowest, upper-bit, upper-rest, upper-again, gap-branches-none, gap-branches-first, gap-word}
+use Rattle.walk.proofs.RowGaps.{ChildWords, RowWords, row-words}
 use Rattle.walk.proofs.put_grandchildren.Statement.{statement}
 use Rattle.walk.proofs.put_grandchildren.Tie as tie
 
@@ -34,10 +34,10 @@ abbrev μ-loop : tie.MeasureT-loop
 rows : (c : tie.After-second-row Inv-loop μ-loop) →
     let n = c .before .before .before .before .before .args .n in
     let row = c .before .first-row .result in
-    RowsTell (n .word) (c .before .before .multiplicity-of .result) (row * 2 ^ (n .conductor - 1) % 2 ^ 64) (bitAnd row (c .second-row .result) * 2 ^ (n .conductor - 1) % 2 ^ 64)
+    RowWords (n .word) (c .before .before .multiplicity-of .result) (row * 2 ^ (n .conductor - 1) % 2 ^ 64) (bitAnd row (c .second-row .result) * 2 ^ (n .conductor - 1) % 2 ^ 64)
 rows c =
     let start = c .before .before .before .before .before in
-    rows-tell _ (start .pre .0) (start .pre .1 .0) (c .before .before .multiplicity-of .ensures) (c .before .first-row .ensures) (c .second-row .ensures)
+    row-words _ (start .pre .0) (start .pre .1 .0) (c .before .before .multiplicity-of .ensures) (c .before .first-row .ensures) (c .second-row .ensures)
 
 module _ (c : tie.After-lowest-of Inv-loop μ-loop) where
   abbrev at-loop : tie.At-loop Inv-loop μ-loop
@@ -51,7 +51,7 @@ module _ (c : tie.After-lowest-of Inv-loop μ-loop) where
   told : let at-rows = at-loop .before in
       let n = at-rows .before .before .before .before .before .args .n in
       let row = at-rows .before .first-row .result in
-      ChildTold (n .word) (at-rows .before .before .multiplicity-of .result) (row * 2 ^ (n .conductor - 1) % 2 ^ 64)
+      ChildWords (n .word) (at-rows .before .before .multiplicity-of .result) (row * 2 ^ (n .conductor - 1) % 2 ^ 64)
       (bitAnd row (at-rows .second-row .result) * 2 ^ (n .conductor - 1) % 2 ^ 64) (c .lowest-of .result .at .0)
   told = rows (at-loop .before) .child _ (upper-bit (at-loop .loop .inv .0) (omega arith) (c .lowest-of .ensures))
 
@@ -66,7 +66,7 @@ module _ (c : tie.After-lowest-of Inv-loop μ-loop) where
       let w : ℕ = start .args .n .word in
       putAll (leaves 1 (childWord w (suc (c .lowest-of .result .at .0))) ++ gapBranches 1 w (c .lowest-of .result .rest)) (at-loop .loop .out, upTo (at-loop .loop .at))
       ≡ putAll (leaves 2 w) (now (start .args .out), upTo (start .args .from))
-  parts = sym (ap (λ (l : List ℕ). putAll l (at-loop .loop .out, upTo (at-loop .loop .at))) (gaps-first _ lowest 1)) ∙ at-loop .loop .inv .3
+  parts = sym (ap (λ (l : List ℕ). putAll l (at-loop .loop .out, upTo (at-loop .loop .at))) (gap-branches-first _ lowest 1)) ∙ at-loop .loop .inv .3
 
 -- they are put
 put : (c : tie.After-put-bits Inv-loop μ-loop) →
@@ -74,13 +74,13 @@ put : (c : tie.After-put-bits Inv-loop μ-loop) →
     let at-loop = low .before .before in
     (c .put-bits .last .1 .1 .1 .0, c .put-bits .result)
     ≡ putAll (leaves 1 (childWord (at-loop .before .before .before .before .before .before .args .n .word) (suc (low .lowest-of .result .at .0)))) (at-loop .loop .out, upTo (at-loop .loop .at))
-put c = let low = c .before .before .before .before in rw (gaps-word _ (lowest low), lowest low .value, others low, ← told low .below) at (c .put-bits .ensures)
+put c = let low = c .before .before .before .before in rw (gap-word _ (lowest low), lowest low .value, others low, ← told low .below) at (c .put-bits .ensures)
 
 loop-holds : tie.Need-loop-holds Inv-loop μ-loop
 loop-holds c = (upper-all (mod-lt _ (pow-pos 64)), c .before .before .before .before .before .pre .1 .1, refl, rw (rows c .all))
 
 add-put-bits : tie.Need-add-put-bits Inv-loop μ-loop
-add-put-bits c = rw (gaps-word _ (lowest (c .before))) record { fits = rows (c .before .before .before .before) .fits _ (upper-bit (c .before .before .before .loop .inv .0) (omega arith) (c .before .lowest-of .ensures)) }
+add-put-bits c = rw (gap-word _ (lowest (c .before))) record { fits = rows (c .before .before .before .before) .fits _ (upper-bit (c .before .before .before .loop .inv .0) (omega arith) (c .before .lowest-of .ensures)) }
 
 shl-put-bits : tie.Need-shl-put-bits Inv-loop μ-loop
 shl-put-bits c =
@@ -91,7 +91,7 @@ shl-put-bits c =
 put-bits-requires : tie.Need-put-bits-requires Inv-loop μ-loop
 put-bits-requires c κs =
     let low = c .before .before .before in
-    (rw (gaps-word _ (lowest low), lowest low .value, others low) (told low .fits), low .before .before .loop .inv .1)
+    (rw (gap-word _ (lowest low), lowest low .value, others low) (told low .fits), low .before .before .loop .inv .1)
 
 returns : tie.Need-returns Inv-loop μ-loop
 returns c =
@@ -111,7 +111,7 @@ loop-again c =
 
 returns-2 : tie.Need-returns-2 Inv-loop μ-loop
 unfolding putAll
-returns-2 c = rw (c .loop-test .left, gaps-none) at (c .before .loop .inv .3)
+returns-2 c = rw (c .loop-test .left, gap-branches-none) at (c .before .loop .inv .3)
 
 pub put-grandchildren-spec : {M : Type 1} → statement M
 put-grandchildren-spec =

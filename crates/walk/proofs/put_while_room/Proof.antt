@@ -9,7 +9,7 @@ use Rattle.tables.proofs.Branches.{TakenOff, taken-off}
 use Rattle.walk.specs.Lending.{upTo, putAll}
 use Rattle.walk.specs.NewGaps.{gapBranches, GapsFit}
 use Rattle.walk.proofs.Lending.{put-stops, put-follows}
-use Rattle.walk.proofs.NewGaps.{gaps-none, gaps-first, gaps-word, fits-first, fits-rest}
+use Rattle.walk.proofs.NewGaps.{gap-branches-none, gap-branches-first, gap-word, fits-first, fits-rest}
 use Rattle.walk.proofs.put_while_room.Statement.{statement}
 use Rattle.walk.proofs.put_while_room.Tie as tie
 
@@ -26,7 +26,7 @@ lowest : (c : tie.After-lowest-of Inv-loop μ-loop) → TakenOff (c .before .bef
 lowest c = taken-off _ (omega arith) (c .before .before .loop .inv .0) (c .lowest-of .ensures)
 
 add-put : tie.Need-add-put Inv-loop μ-loop
-add-put c = rw (gaps-word _ (lowest (c .before))) record { fits = fits-first _ (lowest (c .before)) (c .before .before .before .loop .inv .1) }
+add-put c = rw (gap-word _ (lowest (c .before))) record { fits = fits-first _ (lowest (c .before)) (c .before .before .before .loop .inv .1) }
 
 returns : tie.Need-returns Inv-loop μ-loop
 unfolding leaves
@@ -35,8 +35,8 @@ returns c =
     let low = at-put .before .before .before in
     let at = low .before .before .loop in
     let l = lowest low in
-    sym (sym (at .inv .4) ∙ ap (λ (k : List ℕ). putAll k (at .out, upTo (at .at))) (gaps-first _ l 0)
-    ∙ put-stops _ _ _ _ (rw (gaps-word _ l) at (at-put .put .ensures)) (omega (arith, c .if1 .taken)))
+    sym (sym (at .inv .4) ∙ ap (λ (k : List ℕ). putAll k (at .out, upTo (at .at))) (gap-branches-first _ l 0)
+    ∙ put-stops _ _ _ _ (rw (gap-word _ l) at (at-put .put .ensures)) (omega (arith, c .if1 .taken)))
 
 loop-again : tie.Need-loop-again Inv-loop μ-loop
 unfolding leaves
@@ -49,13 +49,13 @@ loop-again c =
       fits-rest _ l (at .inv .1),
       omega (arith, c .if1 .left),
       at-put .put .kept .1 .1 .0 ∙ at .inv .3,
-      sym (ap (λ (k : List ℕ). putAll k (at .out, upTo (at .at))) (gaps-first _ l 0)
-          ∙ put-follows _ _ _ _ (rw (gaps-word _ l) at (at-put .put .ensures)) (omega (arith, c .if1 .left))) ∙ at .inv .4,
+      sym (ap (λ (k : List ℕ). putAll k (at .out, upTo (at .at))) (gap-branches-first _ l 0)
+          ∙ put-follows _ _ _ _ (rw (gap-word _ l) at (at-put .put .ensures)) (omega (arith, c .if1 .left))) ∙ at .inv .4,
     )
 
 returns-2 : tie.Need-returns-2 Inv-loop μ-loop
 unfolding putAll
-returns-2 c = rw (c .loop-test .left, gaps-none) at (c .before .loop .inv .4)
+returns-2 c = rw (c .loop-test .left, gap-branches-none) at (c .before .loop .inv .4)
 
 pub put-while-room-spec : {M : Type 1} → statement M
 put-while-room-spec =

@@ -8,7 +8,7 @@ use borrow.Author.Tests.{not-true, not-false}
 use Rattle.tables.specs.Nodes.{nodeOf}
 use Rattle.walk.specs.Walks.{inOrder}
 use Rattle.tables.proofs.Levels.{root-levels}
-use Rattle.walk.proofs.Batches.{written, walk-leaf, batch-genus, batch-order, batch-finished, batch-put}
+use Rattle.walk.proofs.Batches.{writtenCount, walk-leaf, batch-genus, batch-order, batch-finished, batch-put}
 use Rattle.walk.proofs.step.Statement.{statement}
 use Rattle.walk.proofs.step.Tie as tie
 
@@ -43,8 +43,8 @@ resume-requires c κs =
 same-length : tie.Need-same-length
 same-length c = search needs
 
--- the number of words written
-count : (c : tie.Joined4) → let at-resume = c .before .before .before .before in c .if4 .count ≡ written (at-resume .resume .last .1 .1 .1 .1 .1 .0, at-resume .resume .result)
+-- the number of words writtenCount
+count : (c : tie.Joined4) → let at-resume = c .before .before .before .before in c .if4 .count ≡ writtenCount (at-resume .resume .last .1 .1 .1 .1 .1 .0, at-resume .resume .result)
 count c = ⊎-elim (λ (test, e). e ∙ rw (test .taken)) (λ (test, e). e ∙ rw (test .left)) (c .if4 .came)
 
 returns-4 : tie.Need-returns-4
