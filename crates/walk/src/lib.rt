@@ -236,14 +236,14 @@ fn emit(n: Node, left: u64, at: usize, out: &mut [u64]) -> Filled
     if left == 0 {
         return put(n.word, at, out);
     }
+    let row = n.first_row();
+    if row == 0 {
+        return Filled { at, next: 0 };
+    }
     if left == 2 {
         if words::multiplicity_of(n.word) < n.conductor {
             return put_grandchildren(n, at, out);
         }
-    }
-    let row = n.first_row();
-    if row == 0 {
-        return Filled { at, next: 0 };
     }
     emit_from(n, row, left - 1, at, out)
 }

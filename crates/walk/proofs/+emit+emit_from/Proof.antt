@@ -51,7 +51,7 @@ abbrev emit-from-below : ℕ → In 1 emit-from-kinds.ps
 emit-from-below t = and 1 emit-from-kinds.ps (falls 1 emit-from-kinds.ps _<_ μ-emit-from t) emit-from.Pre
 
 abbrev emit-claims : ℕ → emit-lts.Claims
-emit-claims t = (put-reads.Asked, put-reads.Learnt, multiplicity-of-reads.Asked, multiplicity-of-reads.Learnt, put-grandchildren-reads.Asked, put-grandchildren-reads.Learnt, first-row-reads.Asked, first-row-reads.Learnt, emit-from-below t, emit-from.Post)
+emit-claims t = (put-reads.Asked, put-reads.Learnt, first-row-reads.Asked, first-row-reads.Learnt, multiplicity-of-reads.Asked, multiplicity-of-reads.Learnt, put-grandchildren-reads.Asked, put-grandchildren-reads.Learnt, emit-from-below t, emit-from.Post)
 
 abbrev emit-from-Inv-loop : emit-from-lts.InvT-loop
 emit-from-Inv-loop n row left from out₀ rest₀ at₀ out rest at =
@@ -71,33 +71,33 @@ module _ (t : ℕ) where
   unfolding leaves
   emit-returns c = rw (c .before .before .before .before .if1 .taken) (c .before .before .put .ensures)
 
+  -- without generators there is no word below the node
+  emit-returns-2 : emit-lts.Need-returns-2 (emit-claims t) (emit-at t) emit.Post
+  unfolding putAll
+  emit-returns-2 c = rw (no-leaves _ _ (c .before .before .if1 .left) (c .before .before .before .before .pre .1 .0) (c .before .first-row .ensures) (c .if2 .taken))
+
   emit-put-grandchildren-requires : emit-lts.Need-put-grandchildren-requires (emit-claims t) (emit-at t) emit.Post
   emit-put-grandchildren-requires c κs =
       let told = c .before .before .before in
-      let start = told .before .before .before .before in
-      let here = subst (λ (k : ℕ). NodeWithLevels k (start .args .n)) (told .before .if2 .taken) (start .pre .1 .0) in
+      let start = told .before .before .before .before .before .before in
+      let here = subst (λ (k : ℕ). NodeWithLevels k (start .args .n)) (told .before .if3 .taken) (start .pre .1 .0) in
       (here, (omega (arith, told .multiplicity-of .ensures, node-conductor 2 _ here), start .pre .1 .1))
 
-  emit-returns-2 : emit-lts.Need-returns-2 (emit-claims t) (emit-at t) emit.Post
-  emit-returns-2 c = rw (c .before .before .before .before .before .before .before .if2 .taken) (c .before .before .put-grandchildren .ensures)
-
-  -- the node's first row
-  row : (c : emit-lts.After-first-row (emit-claims t) (emit-at t) emit.Post) →
-      let start = c .before .before .before .before in Row (start .args .left) (start .args .n) (c .first-row .result)
-  row c = row-branches _ _ (c .before .before .if1 .left) (c .before .before .before .before .pre .1 .0) (c .first-row .ensures)
-
-  -- without generators there is no word below it
   emit-returns-3 : emit-lts.Need-returns-3 (emit-claims t) (emit-at t) emit.Post
-  unfolding putAll
-  emit-returns-3 c = rw (no-leaves _ _ (c .before .before .before .if1 .left) (c .before .before .before .before .before .pre .1 .0) (c .before .first-row .ensures) (c .if4 .taken))
+  emit-returns-3 c = rw (c .before .before .before .before .before .before .before .if3 .taken) (c .before .before .put-grandchildren .ensures)
+
+  -- its first row
+  row : (c : emit-lts.After-first-row (emit-claims t) (emit-at t) emit.Post) →
+      let start = c .before .before .before in Row (start .args .left) (start .args .n) (c .first-row .result)
+  row c = row-branches _ _ (c .before .if1 .left) (c .before .before .before .pre .1 .0) (c .first-row .ensures)
 
   emit-emit-from-requires : emit-lts.Need-emit-from-requires (emit-claims t) (emit-at t) emit.Post
   emit-emit-from-requires c κs =
-      let found = row (c .before .before) in
-      (omega arith, (found .node-levels, (found .offsets, c .before .before .before .before .before .before .pre .1 .1)))
+      let at-row = c .before .before .before in
+      (omega arith, (row at-row .node-levels, (row at-row .offsets, at-row .before .before .before .pre .1 .1)))
 
   emit-returns-4 : emit-lts.Need-returns-4 (emit-claims t) (emit-at t) emit.Post
-  emit-returns-4 c = rw (row (c .before .before .before .before .before) .all) (c .before .before .emit-from .ensures)
+  emit-returns-4 c = rw (row (c .before .before .before .before .before .before) .all) (c .before .before .emit-from .ensures)
 
   -- ---- emit_from
 
@@ -165,10 +165,10 @@ pub +emit+emit-from-spec : {M : Type 1} → statement M
     (λ c. search needs)
     (emit-returns t)
     (λ c κs. tt)
-    (emit-put-grandchildren-requires t)
-    (λ c. search needs)
     (emit-returns-2 t)
     (λ c κs. tt)
+    (emit-put-grandchildren-requires t)
+    (λ c. search needs)
     (emit-returns-3 t)
     (λ c. omega arith)
     (emit-emit-from-requires t)
