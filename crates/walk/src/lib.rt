@@ -227,15 +227,13 @@ fn put_grandchildren(n: Node, from: usize, out: &mut [u64]) -> Filled
     Filled { at, next: 0 }
 }
 
-// Writes the words `left` levels below a node; without generators it has none.
+// Writes the words `left` levels below a node, one level or more; without generators it has none.
 fn emit(n: Node, left: u64, at: usize, out: &mut [u64]) -> Filled
+    requires { ⌜ 1 ≤ left ⌝ }
     requires { ⌜ NodeWithLevels left n ⌝ }
     requires { ⌜ at ≤ length (now out) ⌝ }
     ensures { λ r. ⌜ (now (out .exit), r) ≡ putAll (leaves left (n .word)) (now (out .entry), upTo at) ⌝ }
 {
-    if left == 0 {
-        return put(n.word, at, out);
-    }
     let row = n.first_row();
     if row == 0 {
         return Filled { at, next: 0 };

@@ -25,7 +25,6 @@ use Rattle.walk.proofs.+emit+emit_from.Lts-emit_from as emit-from-lts
 use Rattle.tables.proofs.Node.child.Reads as child-reads
 use Rattle.tables.proofs.Node.first_row.Reads as first-row-reads
 use Rattle.tables.proofs.lowest_of.Reads as lowest-of-reads
-use Rattle.walk.proofs.put.Reads as put-reads
 use Rattle.walk.proofs.put_children.Reads as put-children-reads
 use Rattle.walk.proofs.put_grandchildren.Reads as put-grandchildren-reads
 use Rattle.words.proofs.multiplicity_of.Reads as multiplicity-of-reads
@@ -51,7 +50,7 @@ abbrev emit-from-below : ℕ → In 1 emit-from-kinds.ps
 emit-from-below t = and 1 emit-from-kinds.ps (falls 1 emit-from-kinds.ps _<_ μ-emit-from t) emit-from.Pre
 
 abbrev emit-claims : ℕ → emit-lts.Claims
-emit-claims t = (put-reads.Asked, put-reads.Learnt, first-row-reads.Asked, first-row-reads.Learnt, multiplicity-of-reads.Asked, multiplicity-of-reads.Learnt, put-grandchildren-reads.Asked, put-grandchildren-reads.Learnt, emit-from-below t, emit-from.Post)
+emit-claims t = (first-row-reads.Asked, first-row-reads.Learnt, multiplicity-of-reads.Asked, multiplicity-of-reads.Learnt, put-grandchildren-reads.Asked, put-grandchildren-reads.Learnt, emit-from-below t, emit-from.Post)
 
 abbrev emit-from-Inv-loop : emit-from-lts.InvT-loop
 emit-from-Inv-loop n row left from out₀ rest₀ at₀ out rest at =
@@ -67,37 +66,35 @@ emit-from-claims t = (put-children-reads.Asked, put-children-reads.Learnt, lowes
 module _ (t : ℕ) where
   -- ---- emit
 
-  emit-returns : emit-lts.Need-returns (emit-claims t) (emit-at t) emit.Post
-  unfolding leaves
-  emit-returns c = rw (c .before .before .before .before .if1 .taken) (c .before .before .put .ensures)
-
   -- without generators there is no word below the node
-  emit-returns-2 : emit-lts.Need-returns-2 (emit-claims t) (emit-at t) emit.Post
+  emit-returns : emit-lts.Need-returns (emit-claims t) (emit-at t) emit.Post
   unfolding putAll
-  emit-returns-2 c = rw (no-leaves _ _ (c .before .before .if1 .left) (c .before .before .before .before .pre .1 .0) (c .before .first-row .ensures) (c .if2 .taken))
+  emit-returns c =
+      let start = c .before .before .before in
+      rw (no-leaves _ _ (λ e. omega (arith, start .pre .1 .0)) (start .pre .1 .1 .0) (c .before .first-row .ensures) (c .if1 .taken))
 
   emit-put-grandchildren-requires : emit-lts.Need-put-grandchildren-requires (emit-claims t) (emit-at t) emit.Post
   emit-put-grandchildren-requires c κs =
       let told = c .before .before .before in
-      let start = told .before .before .before .before .before .before in
-      let here = subst (λ (k : ℕ). NodeWithLevels k (start .args .n)) (told .before .if3 .taken) (start .pre .1 .0) in
-      (here, (omega (arith, told .multiplicity-of .ensures, node-conductor 2 _ here), start .pre .1 .1))
+      let start = told .before .before .before .before .before in
+      let here = subst (λ (k : ℕ). NodeWithLevels k (start .args .n)) (told .before .if2 .taken) (start .pre .1 .1 .0) in
+      (here, (omega (arith, told .multiplicity-of .ensures, node-conductor 2 _ here), start .pre .1 .1 .1))
 
-  emit-returns-3 : emit-lts.Need-returns-3 (emit-claims t) (emit-at t) emit.Post
-  emit-returns-3 c = rw (c .before .before .before .before .before .before .before .if3 .taken) (c .before .before .put-grandchildren .ensures)
+  emit-returns-2 : emit-lts.Need-returns-2 (emit-claims t) (emit-at t) emit.Post
+  emit-returns-2 c = rw (c .before .before .before .before .before .before .before .if2 .taken) (c .before .before .put-grandchildren .ensures)
 
   -- its first row
   row : (c : emit-lts.After-first-row (emit-claims t) (emit-at t) emit.Post) →
-      let start = c .before .before .before in Row (start .args .left) (start .args .n) (c .first-row .result)
-  row c = row-branches _ _ (c .before .if1 .left) (c .before .before .before .pre .1 .0) (c .first-row .ensures)
+      let start = c .before .before in Row (start .args .left) (start .args .n) (c .first-row .result)
+  row c = let start = c .before .before in row-branches _ _ (λ e. omega (arith, start .pre .1 .0)) (start .pre .1 .1 .0) (c .first-row .ensures)
 
   emit-emit-from-requires : emit-lts.Need-emit-from-requires (emit-claims t) (emit-at t) emit.Post
   emit-emit-from-requires c κs =
       let at-row = c .before .before .before in
-      (omega arith, (row at-row .node-levels, (row at-row .offsets, at-row .before .before .before .pre .1 .1)))
+      (omega arith, (row at-row .node-levels, (row at-row .offsets, at-row .before .before .pre .1 .1 .1)))
 
-  emit-returns-4 : emit-lts.Need-returns-4 (emit-claims t) (emit-at t) emit.Post
-  emit-returns-4 c = rw (row (c .before .before .before .before .before .before) .all) (c .before .before .emit-from .ensures)
+  emit-returns-3 : emit-lts.Need-returns-3 (emit-claims t) (emit-at t) emit.Post
+  emit-returns-3 c = rw (row (c .before .before .before .before .before .before) .all) (c .before .before .emit-from .ensures)
 
   -- ---- emit_from
 
@@ -137,7 +134,7 @@ module _ (t : ℕ) where
       sym (ap (λ (l : List ℕ). putAll l (at-loop .loop .out, upTo (at-loop .loop .at))) (first c .parts)) ∙ at-loop .loop .inv .4
 
   emit-from-emit-requires : emit-from-lts.Need-emit-requires (emit-from-claims t) (emit-from-at t) emit-from.Post emit-from-Inv-loop emit-from-μ-loop
-  emit-from-emit-requires c κs = (omega arith, (first (c .before) .node-levels, c .before .before .before .before .loop .inv .2))
+  emit-from-emit-requires c κs = (omega arith, (omega arith, (first (c .before) .node-levels, c .before .before .before .before .loop .inv .2)))
 
   emit-from-returns-2 : emit-from-lts.Need-returns-2 (emit-from-claims t) (emit-from-at t) emit-from.Post emit-from-Inv-loop emit-from-μ-loop
   emit-from-returns-2 c =
@@ -161,19 +158,16 @@ module _ (t : ℕ) where
 
 pub +emit+emit-from-spec : {M : Type 1} → statement M
 +emit+emit-from-spec = close μ-emit μ-emit-from (λ t. emit-lts.spec (emit-claims t) (emit-at t) emit.Post
-    (λ c κs. c .before .before .before .pre .1 .1)
-    (λ c. search needs)
-    (emit-returns t)
     (λ c κs. tt)
-    (emit-returns-2 t)
+    (emit-returns t)
     (λ c κs. tt)
     (emit-put-grandchildren-requires t)
     (λ c. search needs)
-    (emit-returns-3 t)
+    (emit-returns-2 t)
     (λ c. omega arith)
     (emit-emit-from-requires t)
     (λ c. search needs)
-    (emit-returns-4 t))
+    (emit-returns-3 t))
     λ t. emit-from-lts.spec (emit-from-claims t) (emit-from-at t) emit-from.Post
     emit-from-Inv-loop
     emit-from-μ-loop
