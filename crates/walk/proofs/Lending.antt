@@ -19,14 +19,17 @@ use Rattle.walk.specs.declared.Filled.{Filled}
 -- ---- one word
 
 module _ (x : ℕ) (t : Lent) where
+  -- at the next place, where the list has it
   pub put-room : t .1 .at < length (t .0) → putOne x t ≡ (set (t .0) (t .1 .at) x, upTo (t .1 .at + 1))
   unfolding putOne
   put-room h = rw (lt-ltb (t .1 .at) (length (t .0)) h)
 
+  -- without room, where the list is full
   pub put-full : t .1 .at ≡ length (t .0) → putOne x t ≡ (t .0, record { at = t .1 .at + 1; next = x })
   unfolding putOne
   put-full h = rw (le-ltb (t .1 .at) (length (t .0)) (omega arith), eq-eqb (t .1 .at) (length (t .0)) h)
 
+  -- not at all, where an earlier word found no room
   put-none : length (t .0) < t .1 .at → putOne x t ≡ t
   unfolding putOne
   put-none h = rw (le-ltb (t .1 .at) (length (t .0)) (omega arith), ne-eqb (t .1 .at) (length (t .0)) (λ e. omega arith))
@@ -36,6 +39,7 @@ record Kept (t u : Lent) : Type 0 where
   same : length (u .0) ≡ length (t .0)
   told : u .1 .at ≤ length (u .0) → u .1 .next ≡ 0
 
+-- when a word is put
 kept-one : (x : ℕ) (t : Lent) → (t .1 .at ≤ length (t .0) → t .1 .next ≡ 0) → Kept t (putOne x t)
 kept-one x t h = elim (decLt (t .1 .at) (length (t .0))) [
   | yes l ↦ rw (put-room x t l) record { same = length-set (t .0) (t .1 .at) x; told = λ k. refl }
@@ -45,6 +49,7 @@ kept-one x t h = elim (decLt (t .1 .at) (length (t .0))) [
   ]
 ]
 
+-- and when a list is
 kept-all : (l : List ℕ) (t : Lent) → (t .1 .at ≤ length (t .0) → t .1 .next ≡ 0) → Kept t (putAll l t)
 unfolding putAll
 kept-all [] t h = record { same = refl; told = h }
@@ -55,6 +60,7 @@ kept-all (x ∷ l) t h =
 
 -- ---- one list after the other
 
+-- two lists joined are put one after the other
 put-append : (a b : List ℕ) (t : Lent) → putAll (a ++ b) t ≡ putAll b (putAll a t)
 unfolding putAll
 put-append [] b t = refl
@@ -68,6 +74,7 @@ put-more (x ∷ l) t h = ap (putAll l) (put-none x t h) ∙ put-more l t h
 
 -- t is what became of the list when the words of a were put
 module _ (a b o : List ℕ) (at : ℕ) {t : Lent} (e : t ≡ putAll a (o, upTo at)) where
+  -- it keeps its length
   kept : Kept (o, upTo at) t
   kept = rw e (kept-all a (o, upTo at) (λ h. refl))
 
