@@ -5,20 +5,17 @@ use mathlib.Core.Path.{_≡_, ap, ap₂, _∙_, subst}
 use mathlib.Core.List.{[], map, map-map, List·Memᴰ}
 use native.Mathlib.Omega.{arith}
 use lib.Bits.{bitAnd}
-use Rattle.words.specs.Lists.{joined}
-use Rattle.words.specs.Words.{conductor, closed, childWord}
+use Rattle.words.specs.Words.{conductor, childWord}
 use Rattle.words.specs.Positions.{positions}
 use Rattle.words.specs.Elements.{multiplicity}
 use Rattle.words.specs.Tree.{leaves}
 use Rattle.words.proofs.Lists.{joined-cong, map-joined, map-same}
-use Rattle.words.proofs.StandingBits.{positions-zero}
 use Rattle.words.proofs.Elements.{conductor-pos, multiplicity-pos, multiplicity-le-genus}
-use Rattle.words.proofs.Closure.{conductor-le-64}
 use Rattle.tables.specs.Nodes.{nodeOf, firstRow, secondRow, rowOfChild}
 use Rattle.tables.specs.Levels.{Levels, NodeWithLevels}
 use Rattle.tables.specs.declared.Node.{Node}
-use Rattle.tables.proofs.Levels.{node-conductor}
-use Rattle.tables.proofs.Branches.{TakenOff}
+use Rattle.tables.proofs.Levels.{node-conductor, conductor-within}
+use Rattle.tables.proofs.Branches.{TakenOff, joined-lowest, joined-none}
 use Rattle.tables.proofs.RowsBelow.{childRow, child-there, child-levels-there, grandchild-there, leaf-there, multiplicity-there, leaves-by-rows}
 use Rattle.census.proofs.Tallies.{InParts}
 use Rattle.census.proofs.WordPlaces.{child-place, leaf-place}
@@ -27,12 +24,12 @@ use Rattle.census.specs.Private.{censusPlace, grandchildPlaces, RowOfPla
 -- the places below the child at the lowest offset come first
 pub places-first : (first row both m : ℕ) {bits at rest : ℕ} → TakenOff bits at rest
     → InParts (map (λ j. first + at + j) (positions (rowOfChild row both m at))) (grandchildPlaces first row both m rest) (grandchildPlaces first row both m bits)
-unfolding grandchildPlaces joined
-places-first first row both m low = record { split = ap (joined (λ d. map (λ j. first + d + j) (positions (rowOfChild row both m d)))) (low .first) }
+unfolding grandchildPlaces
+places-first first row both m low = record { split = joined-lowest low _ }
 
 pub places-none : (first row both m : ℕ) → grandchildPlaces first row both m 0 ≡ []
-unfolding grandchildPlaces joined
-places-none first row both m = ap (joined (λ d. map (λ j. first + d + j) (positions (rowOfChild row both m d)))) positions-zero
+unfolding grandchildPlaces
+places-none first row both m = joined-none _
 
 module _ (w : ℕ) (at : Levels 2 w) (later : multiplicity w < conductor w) where
   module _ (d : ℕ) (i : List·Memᴰ d (positions (firstRow (nodeOf w)))) where
@@ -71,7 +68,7 @@ rows-tell n {m} {row} {both} at later m-is row-is both-is = record {
   places = rw (both-of, row-of, m-is, conductor-is) (grandchild-places w (at .levels) later);
   low =
       let o = at .levels in
-      omega (arith, m-is, conductor-is, multiplicity-pos w (o .fits), multiplicity-le-genus w (o .fits), conductor-le-64 w (o .fits) (o .closed) (omega (arith, o .few)), o .few);
+      omega (arith, m-is, conductor-is, multiplicity-pos w (o .fits), multiplicity-le-genus w (o .fits), conductor-within 2 n at, o .few);
   offsets = λ d i.
       let k : List·Memᴰ d (positions (firstRow (nodeOf w))) = subst (λ (r : ℕ). List·Memᴰ d (positions r)) row-of i in (
         omega (arith, child-there w (at .levels) later d k .low, conductor-pos w),

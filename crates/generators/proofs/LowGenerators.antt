@@ -22,13 +22,12 @@ use Rattle.words.proofs.Bits.{one-shl}
 use Rattle.words.proofs.Sets.{sum-of, sum-found, same-sums}
 use Rattle.words.proofs.BitSets.{bits-from-same, bits-from-listed, bits-from-none, bits-from-not, bits-from-or, bits-from-and, bits-from-shl, bits-from-below, complement-from}
 use Rattle.words.proofs.Elements.{conductor-pos, generator-parts}
-use Rattle.words.proofs.Closure.{conductor-le-64}
 use Rattle.tables.specs.Seeds.{setBelow}
 use Rattle.tables.specs.Nodes.{firstRow}
 use Rattle.tables.specs.Levels.{NodeWithLevels}
 use Rattle.tables.specs.declared.Node.{Node}
 use Rattle.tables.proofs.Nodes.{first-row-generators}
-use Rattle.tables.proofs.Levels.{node-accepted, node-conductor, node-offsets}
+use Rattle.tables.proofs.Levels.{node-accepted, node-conductor, conductor-within, node-offsets}
 use Rattle.tables.proofs.Seeds.{below-in, in-below}
 use Rattle.generators.specs.Generators.{minimalGenerators}
 use Rattle.generators.proofs.MinimalGenerators.{generators-parts}
@@ -158,16 +157,12 @@ module _ (n : Node) (at : NodeWithLevels 0 n) where
   accepted : Accepted (n .word)
   accepted = node-accepted 0 n at
 
-  -- its conductor is at most 64
-  pub conductor-small : n .conductor ≤ 64
-  conductor-small = omega (arith, node-conductor 0 n at, conductor-le-64 w (at .levels .fits) (accepted .closed) (accepted .few))
-
   -- they are those of the bits below the conductor, and of the bits of the first row of the seed table
   pub generators-listed : (low : ℕ) → low ≡ bitsFrom (lowGenerator (n .word)) 1
       → minimalGenerators (n .word) ≡ map (λ d. 1 + d) (positions low) ++ map (λ d. n .conductor + d) (positions (firstRow n))
   generators-listed low e =
       generators-parts w (at .levels .fits)
-      ∙ ap₂ _++_ (sym (low-listed w (at .levels .fits) (omega (arith, conductor-small, node-conductor 0 n at))) ∙ ap (λ (b : ℕ). map (λ d. 1 + d) (positions b)) (sym e))
+      ∙ ap₂ _++_ (sym (low-listed w (at .levels .fits) (omega (arith, conductor-within 0 n at, node-conductor 0 n at))) ∙ ap (λ (b : ℕ). map (λ d. 1 + d) (positions b)) (sym e))
       (first-row-generators w (at .levels .fits) (accepted .closed) (accepted .few)
       ∙ ap₂ (λ (b c : ℕ). map (λ d. c + d) (positions b)) (ap firstRow (sym (at .node))) (sym (node-conductor 0 n at)))
 

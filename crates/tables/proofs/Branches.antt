@@ -52,6 +52,25 @@ module _ (bits : ℕ) (some : 0 < bits) (fits : bits < 2 ^ 64) where
     value = rw (e, f) (omega (arith, lowest-stands));
   }
 
+module _ {bits at rest : ℕ} (low : TakenOff bits at rest) where
+  -- it is one of them
+  pub lowest-in : List·Memᴰ at (positions bits)
+  lowest-in = subst (List·Memᴰ at) (sym (low .first)) (List·Memᴰ·head refl)
+
+  -- and so are the others
+  pub others-in : {d : ℕ} → List·Memᴰ d (positions rest) → List·Memᴰ d (positions bits)
+  others-in {d} m = subst (List·Memᴰ d) (sym (low .first)) (List·Memᴰ·tail m)
+
+  -- of what is joined over them, that of the lowest comes first
+  pub joined-lowest : {B : Type 0} (f : ℕ → List B) → joined f (positions bits) ≡ f at ++ joined f (positions rest)
+  unfolding joined
+  joined-lowest f = ap (joined f) (low .first)
+
+-- over none, nothing is joined
+pub joined-none : {B : Type 0} (f : ℕ → List B) → joined f (positions 0) ≡ []
+unfolding joined
+joined-none f = ap (joined f) positions-zero
+
 -- the others are above the lowest
 pub lowest-below : {bits at rest : ℕ} → TakenOff bits at rest → {d : ℕ} → List·Memᴰ d (positions rest) → at < d
 unfolding Ordered
@@ -67,22 +86,22 @@ module _ (r w : ℕ) where
 
   -- no offset, no branch
   pub branches-none : branches r w 0 ≡ []
-  unfolding branches joined
-  branches-none = ap (joined (λ d. leaves r (childWord w (conductor w + d)))) positions-zero
+  unfolding branches
+  branches-none = joined-none _
 
   -- at is the lowest of the offsets in bits, and rest has the others: the branch there comes first
   module _ {bits at rest : ℕ} (low : TakenOff bits at rest) where
     pub branches-first : branches r w bits ≡ leaves r (childWord w (conductor w + at)) ++ branches r w rest
-    unfolding branches joined
-    branches-first = ap (joined (λ d. leaves r (childWord w (conductor w + d)))) (low .first)
+    unfolding branches
+    branches-first = joined-lowest low _
 
     -- it is the offset of a right generator
     pub offset-first : Offsets w bits → List·Memᴰ (conductor w + at) (rightGenerators w)
-    offset-first o = o at (subst (List·Memᴰ at) (sym (low .first)) (List·Memᴰ·head refl))
+    offset-first o = o at (lowest-in low)
 
     -- the others are offsets too
     pub offsets-rest : Offsets w bits → Offsets w rest
-    offsets-rest o d m = o d (subst (List·Memᴰ d) (sym (low .first)) (List·Memᴰ·tail m))
+    offsets-rest o d m = o d (others-in low m)
 
   -- the bits of a row that has the offsets of the right generators make all branches
   pub leaves-row : (row : ℕ) → rightGenerators w ≡ map (λ d. conductor w + d) (positions row) → leaves (suc r) w ≡ branches r w row

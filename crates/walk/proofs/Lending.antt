@@ -72,21 +72,24 @@ unfolding putAll
 put-more [] t h = refl
 put-more (x ∷ l) t h = ap (putAll l) (put-none x t h) ∙ put-more l t h
 
--- t is what became of the list when the words of a were put
-module _ (a b o : List ℕ) (at : ℕ) {t : Lent} (e : t ≡ putAll a (o, upTo at)) where
+-- l is the words of a and then those of b, and t is what became of the list when those of a were put
+module _ (a b : List ℕ) {l : List ℕ} (parts : l ≡ a ++ b) (o : List ℕ) (at : ℕ) {t : Lent} (e : t ≡ putAll a (o, upTo at)) where
+  split : putAll l (o, upTo at) ≡ putAll b t
+  split = ap (λ (l : List ℕ). putAll l (o, upTo at)) parts ∙ put-append a b (o, upTo at) ∙ ap (putAll b) (sym e)
+
   -- it keeps its length
   kept : Kept (o, upTo at) t
   kept = rw e (kept-all a (o, upTo at) (λ h. refl))
 
   -- where one of them found no room, those of b are not put
-  pub put-stops : length o < t .1 .at → putAll (a ++ b) (o, upTo at) ≡ t
-  put-stops h = put-append a b (o, upTo at) ∙ ap (putAll b) (sym e) ∙ put-more b t (omega (arith, kept .same))
+  pub put-stops : length o < t .1 .at → putAll l (o, upTo at) ≡ t
+  put-stops h = split ∙ put-more b t (omega (arith, kept .same))
 
   -- else those of b follow
-  pub put-follows : t .1 .at ≤ length o → putAll (a ++ b) (o, upTo at) ≡ putAll b (t .0, upTo (t .1 .at))
+  pub put-follows : t .1 .at ≤ length o → putAll l (o, upTo at) ≡ putAll b (t .0, upTo (t .1 .at))
   put-follows h =
       let told = kept .told (omega (arith, kept .same)) in
-      put-append a b (o, upTo at) ∙ ap (putAll b) (sym e) ∙ ap (λ (n : ℕ). putAll b (t .0, record { at = t .1 .at; next = n })) told
+      split ∙ ap (λ (n : ℕ). putAll b (t .0, record { at = t .1 .at; next = n })) told
 
 -- ---- all of a list
 

@@ -1,7 +1,7 @@
 -- The children of a word by their new gaps as bits: one by one, and from offsets moved up to the conductor. Assumes nothing.
 use Prim.Native.Nat.{ℕ, suc, _+_, _*_, _-_, _/_, _%_, _^_, _<_}
-use mathlib.Core.Path.{_≡_, refl, sym, ap, _∙_, subst}
-use mathlib.Core.List.{[], _++_, map, List·Memᴰ, List·Memᴰ·head, List·Memᴰ·tail, Memᴰ·of-map}
+use mathlib.Core.Path.{_≡_, sym, ap, _∙_, subst}
+use mathlib.Core.List.{[], _++_, map, List·Memᴰ, Memᴰ·of-map}
 use native.Mathlib.Omega.{arith}
 use native.Mathlib.Nat.{div-one, div-mul-le-self}
 use lib.Count.{trailingZeros}
@@ -10,42 +10,34 @@ use Rattle.words.specs.Words.{conductor, childWord}
 use Rattle.words.specs.Positions.{positions, above}
 use Rattle.words.specs.Tree.{leaves}
 use Rattle.words.proofs.Lists.{joined-map, joined-cong}
-use Rattle.words.proofs.StandingBits.{positions-zero, positions-shl, from-positions, above-lowest}
+use Rattle.words.proofs.StandingBits.{positions-shl, from-positions, above-lowest}
 use Rattle.words.proofs.Elements.{conductor-pos}
 use Rattle.tables.specs.Nodes.{lowestOffset}
 use Rattle.tables.specs.Levels.{Levels, NodeWithLevels}
 use Rattle.tables.specs.Branches.{branches, Offsets}
 use Rattle.tables.specs.declared.Node.{Node}
 use Rattle.tables.proofs.Levels.{node-conductor}
-use Rattle.tables.proofs.Branches.{TakenOff, taken-off, lowest-trailing, child-of, levels-below}
+use Rattle.tables.proofs.Branches.{TakenOff, taken-off, lowest-trailing, lowest-in, joined-lowest, joined-none, child-of, levels-below}
 use Rattle.walk.specs.NewGaps.{gapBranches, GapsFit}
 
 -- ---- one by one
 
 -- no gap, no branch
 pub gap-branches-none : (r w : ℕ) → gapBranches r w 0 ≡ []
-unfolding gapBranches joined
-gap-branches-none r w = ap (joined (λ i. leaves r (childWord w (suc i)))) positions-zero
+unfolding gapBranches
+gap-branches-none r w = joined-none _
 
 -- at is the lowest of the bits, and rest has the others
 module _ (w : ℕ) {bits at rest : ℕ} (low : TakenOff bits at rest) where
   -- the branch there comes first
   pub gap-branches-first : (r : ℕ) → gapBranches r w bits ≡ leaves r (childWord w (suc at)) ++ gapBranches r w rest
-  unfolding gapBranches joined
-  gap-branches-first r = ap (joined (λ i. leaves r (childWord w (suc i)))) (low .first)
+  unfolding gapBranches
+  gap-branches-first r = joined-lowest low _
 
   -- its word is made by the lowest bit
   pub gap-word : w + (bits - rest) ≡ childWord w (suc at)
   unfolding childWord
   gap-word = let last : at ≡ suc at - 1 = omega arith in ap (λ (k : ℕ). w + k) (low .value ∙ ap (λ (k : ℕ). 2 ^ k) last)
-
-  -- and has 64 bits
-  pub fits-first : GapsFit w bits → childWord w (suc at) < 2 ^ 64
-  fits-first h = h at (subst (List·Memᴰ at) (sym (low .first)) (List·Memᴰ·head refl))
-
-  -- and so have those of the others
-  pub fits-rest : GapsFit w bits → GapsFit w rest
-  fits-rest h i m = h i (subst (List·Memᴰ i) (sym (low .first)) (List·Memᴰ·tail m))
 
 -- ---- from offsets
 
@@ -101,9 +93,7 @@ module _ {n bits at rest : ℕ} (u : Upper n bits) (some : 0 < bits) (e : (at �
 
   -- is a bit of the number
   pub upper-bit : List·Memᴰ at (positions n)
-  upper-bit =
-      from-positions n (u .from) (subst (λ (b : ℕ). List·Memᴰ at (positions b)) (u .cleared)
-      (subst (List·Memᴰ at) (sym (upper-lowest .first)) (List·Memᴰ·head refl)))
+  upper-bit = from-positions n (u .from) (subst (λ (b : ℕ). List·Memᴰ at (positions b)) (u .cleared) (lowest-in upper-lowest))
 
   -- and the others are those above it
   pub upper-rest : rest ≡ above n at

@@ -2,7 +2,7 @@
 -- nothing.
 use Prim.Native.Nat.{ℕ, _+_, _*_, _^_, _<_}
 use mathlib.Core.Path.{_≡_, refl, sym, ap, _∙_, subst}
-use mathlib.Core.List.{List, map, List·Memᴰ, List·Memᴰ·head, List·Memᴰ·tail}
+use mathlib.Core.List.{List, map, List·Memᴰ}
 use native.Mathlib.Omega.{arith}
 use lib.Bits.{bitAnd}
 use lib.ListN.{length, length-map}
@@ -10,7 +10,7 @@ use Rattle.words.specs.Positions.{positions}
 use Rattle.words.specs.Tree.{leaves}
 use Rattle.tables.specs.Nodes.{rowOfChild}
 use Rattle.tables.specs.declared.Node.{Node}
-use Rattle.tables.proofs.Branches.{TakenOff, taken-off}
+use Rattle.tables.proofs.Branches.{TakenOff, taken-off, lowest-in, others-in}
 use Rattle.census.specs.Private.{censusPlace, tallied, RoomFor, grandchildPlaces, RowOfPlaces}
 use Rattle.census.proofs.Tallies.{InParts, tallied-length, tallied-parts, room-front, room-rest}
 use Rattle.census.proofs.RowPlaces.{places-first, places-none, RowsTell, rows-tell}
@@ -85,7 +85,7 @@ module _ (c : tie.After-lowest-of Inv-loop μ-loop) where
 
   -- it is one of the row
   among : List·Memᴰ d (positions (row s))
-  among = c .before .before .loop .inv .2 d (subst (List·Memᴰ d) (sym (lowest c .first)) (List·Memᴰ·head refl))
+  among = c .before .before .loop .inv .2 d (lowest-in (lowest c))
 
   -- the places below the child there, and the others
   parts : InParts (map (λ j. first s + d + j) (positions (rowOfChild (row s) (both s) (m s) d))) (grandchildPlaces (first s) (row s) (both s) (m s) (c .lowest-of .result .rest))
@@ -117,7 +117,7 @@ loop-again c =
     let done = c .before .before .tally-row .ensures ∙ ap (λ (r : ℕ). tallied (map (λ j. first (s low) + d low + j) (positions r)) (at .out)) (c .before .before .before .before .child-row .ensures) in (
       omega (arith, lowest low .fewer),
       ap length done ∙ tallied-length _ _ ∙ at .inv .1,
-      (λ e i. at .inv .2 e (subst (List·Memᴰ e) (sym (lowest low .first)) (List·Memᴰ·tail i))),
+      (λ e i. at .inv .2 e (others-in (lowest low) i)),
       subst (RoomFor _) (sym done) (room-rest (at .out) (parts low) (at .inv .3)),
       ap (tallied (grandchildPlaces (first (s low)) (row (s low)) (both (s low)) (m (s low)) (low .lowest-of .result .rest))) done
           ∙ sym (tallied-parts (at .out) (parts low)) ∙ at .inv .4,

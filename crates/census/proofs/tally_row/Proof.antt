@@ -1,12 +1,12 @@
 -- `census::tally_row` meets its contract. What is left to count makes, with what was counted, all that there is to count. Assumes nothing.
 use Prim.Native.Nat.{ℕ, _+_, _^_, _<_}
 use mathlib.Core.Path.{_≡_, refl, sym, ap, _∙_, subst}
-use mathlib.Core.List.{List, map, List·Memᴰ, List·Memᴰ·head, List·Memᴰ·tail}
+use mathlib.Core.List.{List, map}
 use native.Mathlib.Omega.{arith}
 use lib.ListN.{length}
 use Rattle.words.specs.Positions.{positions}
 use Rattle.words.proofs.StandingBits.{positions-zero}
-use Rattle.tables.proofs.Branches.{TakenOff, taken-off}
+use Rattle.tables.proofs.Branches.{TakenOff, taken-off, lowest-in, others-in}
 use Rattle.census.specs.Private.{tallied, RowOfPlaces, RoomFor}
 use Rattle.census.proofs.Tallies.{one-more-length, room-after-one, room-for-fewer}
 use Rattle.census.proofs.tally_row.Statement.{statement}
@@ -26,7 +26,7 @@ lowest c = taken-off _ (omega arith) (c .before .before .loop .inv .0) (c .lowes
 
 -- the place at the lowest offset is one of the list
 first-place : (c : tie.After-lowest-of Inv-loop μ-loop) → c .before .before .before .before .args .first + c .lowest-of .result .at .0 < 2210
-first-place c = c .before .before .loop .inv .2 _ (subst (List·Memᴰ _) (sym (lowest c .first)) (List·Memᴰ·head refl))
+first-place c = c .before .before .loop .inv .2 _ (lowest-in (lowest c))
 
 loop-holds : tie.Need-loop-holds Inv-loop μ-loop
 loop-holds c = (c .before .fits .row .fits, refl, c .before .pre .0, c .before .pre .1, refl)
@@ -51,7 +51,7 @@ loop-again c =
     let done = c .before .before .add-one .ensures in (
       omega (arith, lowest low .fewer),
       ap length done ∙ one-more-length _ _ ∙ at .inv .1,
-      (λ d m. at .inv .2 d (subst (List·Memᴰ d) (sym (lowest low .first)) (List·Memᴰ·tail m))),
+      (λ d m. at .inv .2 d (others-in (lowest low) m)),
       subst (RoomFor _) (sym done) (room-after-one _ _ (subst (λ (l : List ℕ). RoomFor (length l) (at .out)) (lowest low .first) (at .inv .3))),
       ap (tallied (map (λ d. first + d) (positions (low .lowest-of .result .rest)))) done ∙ ap (λ (l : List ℕ). tallied (map (λ d. first + d) l) (at .out)) (sym (lowest low .first)) ∙ at .inv .4,
     )

@@ -10,12 +10,12 @@ use Rattle.words.specs.Lists.{fronted}
 use Rattle.words.specs.Positions.{positions}
 use Rattle.words.specs.Answers.{giving}
 use Rattle.tables.specs.Nodes.{firstRow}
-use Rattle.tables.proofs.Levels.{node-accepted, node-conductor, node-offsets}
+use Rattle.tables.proofs.Levels.{node-accepted, node-conductor, node-offsets, conductor-within}
 use Rattle.generators.specs.Generators.{minimalGenerators, generatorsOf}
 use Rattle.words.proofs.Lists.{fronted-length, fronted-twice}
 use Rattle.words.proofs.StandingBits.{positions-le}
 use Rattle.words.proofs.Answers.{no-room, room}
-use Rattle.generators.proofs.LowGenerators.{conductor-small, generators-listed, generators-length}
+use Rattle.generators.proofs.LowGenerators.{generators-listed, generators-length}
 use Rattle.generators.proofs.generators_of.Statement.{statement}
 use Rattle.generators.proofs.generators_of.Tie as tie
 
@@ -24,7 +24,7 @@ write-bits-requires : tie.Need-write-bits-requires
 write-bits-requires c κs = search needs
 
 low-generators-requires : tie.Need-low-generators-requires
-low-generators-requires c κs = let start = c .before in (node-conductor 0 _ (start .pre), conductor-small _ (start .pre))
+low-generators-requires c κs = let start = c .before in (node-conductor 0 _ (start .pre), conductor-within 0 _ (start .pre) .1)
 
 standing-bits-requires : tie.Need-standing-bits-requires
 standing-bits-requires c κs = search needs
@@ -67,7 +67,7 @@ write-bits-requires-2 c κs =
     let second-count = at-count .generators .ensures in
     let row-count = ap (λ (b : ℕ). length (positions b)) (c .before .first-row .ensures) ∙ node-offsets 0 n (start .pre) in
     let sized = ap length list ∙ fronted-length (map (λ d. 1 + d) (positions low)) (start .args .out .now) (omega (arith, fits, first-count, length-map (positions low) (λ d. 1 + d))) in
-    (omega (arith, conductor-small n (start .pre)), omega (arith, place, sized, fits, first-count, second-count, row-count))
+    (omega (arith, conductor-within 0 n (start .pre)), omega (arith, place, sized, fits, first-count, second-count, row-count))
 
 same-length : tie.Need-same-length
 same-length c = search needs

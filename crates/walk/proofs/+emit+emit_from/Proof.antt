@@ -1,15 +1,12 @@
 -- The proof of the cycle of calls {emit, emit_from}. The levels below a node are the measure. The loop's invariant: what is left to put makes,
 -- with what was put, all that there is to put. Assumes nothing.
 use Prim.Native.Nat.{ℕ, _+_, _*_, _^_, _≤_, _<_}
-use mathlib.Core.Path.{_≡_, refl, sym, subst, ap, _∙_}
-use mathlib.Core.List.{List, _++_}
+use mathlib.Core.Path.{_≡_, refl, sym, subst, _∙_}
 use native.Mathlib.Omega.{arith}
 use lib.ListN.{length}
-use denote.Ref.{now}
 use borrow.Author.Needs.{needs}
 use borrow.Fn.Kinds.{In}
 use borrow.Fn.PlainCycle.{Measures, is, falls, and}
-use Rattle.words.specs.Tree.{leaves}
 use Rattle.tables.specs.Levels.{NodeWithLevels}
 use Rattle.tables.specs.Branches.{branches, Offsets}
 use Rattle.tables.proofs.Levels.{node-conductor}
@@ -123,23 +120,14 @@ module _ (t : ℕ) where
       let at-loop = c .before .before .before in
       first-child _ _ (at-loop .before .before .before .pre .1 .0) (at-loop .loop .inv .1) (lowest (c .before)) (c .child .ensures)
 
-  -- the words below the child come first
-  parts : (c : emit-from-lts.After-child (emit-from-claims t) (emit-from-at t) emit-from.Post emit-from-Inv-loop emit-from-μ-loop) →
-      let at-loop = c .before .before .before in
-      let args = at-loop .before .before .before .args in
-      putAll (leaves (args .left) (c .child .result .word) ++ branches (args .left) (args .n .word) (c .before .lowest-of .result .rest)) (at-loop .loop .out, upTo (at-loop .loop .at))
-      ≡ putAll (branches (args .left) (args .n .word) (args .row)) (now (args .out), upTo (args .from))
-  parts c =
-      let at-loop = c .before .before .before in
-      sym (ap (λ (l : List ℕ). putAll l (at-loop .loop .out, upTo (at-loop .loop .at))) (first c .parts)) ∙ at-loop .loop .inv .4
-
   emit-from-emit-requires : emit-from-lts.Need-emit-requires (emit-from-claims t) (emit-from-at t) emit-from.Post emit-from-Inv-loop emit-from-μ-loop
   emit-from-emit-requires c κs = (omega arith, (omega arith, (first (c .before) .node-levels, c .before .before .before .before .loop .inv .2)))
 
   emit-from-returns-2 : emit-from-lts.Need-returns-2 (emit-from-claims t) (emit-from-at t) emit-from.Post emit-from-Inv-loop emit-from-μ-loop
   emit-from-returns-2 c =
       let at-emit = c .before .before .before .before in
-      sym (sym (parts (at-emit .before .before)) ∙ put-stops _ _ _ _ (at-emit .emit .ensures) (omega (arith, c .if2 .taken)))
+      let at-child = at-emit .before .before in
+      sym (sym (at-child .before .before .before .loop .inv .4) ∙ put-stops _ _ (first at-child .parts) _ _ (at-emit .emit .ensures) (omega (arith, c .if2 .taken)))
 
   emit-from-loop-again : emit-from-lts.Need-loop-again (emit-from-claims t) (emit-from-at t) emit-from.Post emit-from-Inv-loop emit-from-μ-loop
   emit-from-loop-again c =
@@ -149,7 +137,7 @@ module _ (t : ℕ) where
         first at-child .others,
         omega (arith, c .if2 .left),
         at-emit .emit .kept .1 .1 .1 .0 ∙ at-child .before .before .before .loop .inv .3,
-        sym (put-follows _ _ _ _ (at-emit .emit .ensures) (omega (arith, c .if2 .left))) ∙ parts at-child,
+        sym (put-follows _ _ (first at-child .parts) _ _ (at-emit .emit .ensures) (omega (arith, c .if2 .left))) ∙ at-child .before .before .before .loop .inv .4,
       )
 
   emit-from-returns-3 : emit-from-lts.Need-returns-3 (emit-from-claims t) (emit-from-at t) emit-from.Post emit-from-Inv-loop emit-from-μ-loop

@@ -97,7 +97,8 @@ module _ (t : ℕ) where
   returns-2 c =
       let at-resume = c .before .before .before .before in
       let b = found (at-resume .before .before .before) in
-      rw (later-parts _ _ _ _ _ b, ← at-resume .before .before .child .ensures) (sym (put-stops _ _ _ _ (at-resume .resume .ensures) (omega (arith, c .if2 .taken))))
+      let lowest : ℕ = at-resume .before .before .before .before .before .before .args .lowest in
+      sym (put-stops _ _ (rw (← at-resume .before .before .child .ensures) at (later-parts lowest _ _ _ _ b)) _ _ (at-resume .resume .ensures) (omega (arith, c .if2 .taken)))
 
   -- the multiplicity of the node is below the lowest: the later branches are cut
   returns-3 : resume-lts.Need-returns-3 claims at resume.Post
@@ -117,8 +118,8 @@ module _ (t : ℕ) where
       let b = found (at-resume .before .before .before) in
       let a = at-resume .before .before .before .before .before .before .args in
       let inside : a .lowest ≤ multiplicity (a .n .word) = omega (arith, at-test .before .multiplicity-of .ensures) in
-      rw (later-kept _ _ _ _ _ b inside, ← at-resume .before .before .child .ensures, ← after at-later)
-      (c .before .before .emit-from .ensures ∙ sym (put-follows _ _ _ _ (at-resume .resume .ensures) (omega (arith, at-test .before .before .if2 .left))))
+      c .before .before .emit-from .ensures
+      ∙ sym (put-follows _ _ (rw (← at-resume .before .before .child .ensures, ← after at-later) at (later-kept _ _ _ _ _ b inside)) _ _ (at-resume .resume .ensures) (omega (arith, at-test .before .before .if2 .left)))
 
 pub +resume-spec : {M : Type 1} → statement M
 +resume-spec =

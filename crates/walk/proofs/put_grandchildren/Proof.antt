@@ -1,17 +1,15 @@
 -- `walk::put_grandchildren` meets its contract. What is left to put makes, with what was put, all that there is to put, and the bits that are
 -- left are the generators from one of them on. Assumes nothing.
 use Prim.Native.Nat.{ℕ, suc, _*_, _-_, _%_, _^_, _≤_}
-use mathlib.Core.Path.{_≡_, refl, sym, ap, _∙_}
-use mathlib.Core.List.{List, _++_}
+use mathlib.Core.Path.{_≡_, refl, sym, ap, ap₂, _∙_}
+use mathlib.Core.List.{List}
 use native.Mathlib.Omega.{arith}
 use native.Mathlib.Nat.{mod-lt}
-use lib.Bits.{bitAnd}
+use lib.Bits.{bitAnd, bitOr}
 use lib.ListN.{length}
 use lib.Pow.{pow-pos}
-use denote.Ref.{now}
 use borrow.Author.Needs.{needs}
 use Rattle.words.specs.Words.{childWord}
-use Rattle.words.specs.Positions.{above}
 use Rattle.words.specs.Tree.{leaves}
 use Rattle.tables.proofs.Levels.{node-conductor, conductor-within}
 use Rattle.tables.proofs.Branches.{TakenOff}
@@ -19,7 +17,7 @@ use Rattle.walk.specs.Lending.{upTo, putAll}
 use Rattle.walk.specs.NewGaps.{gapBranches}
 use Rattle.walk.proofs.Lending.{put-stops, put-follows}
 use Rattle.walk.proofs.NewGaps.{Upper, upper-all, upper-lowest, upper-bit, upper-rest, upper-again, gap-branches-none, gap-branches-first, gap-word}
-use Rattle.walk.proofs.RowGaps.{ChildWords, RowWords, row-words}
+use Rattle.walk.proofs.RowGaps.{newGaps, ChildWords, RowWords, row-words}
 use Rattle.walk.proofs.put_grandchildren.Statement.{statement}
 use Rattle.walk.proofs.put_grandchildren.Tie as tie
 
@@ -43,38 +41,46 @@ module _ (c : tie.After-lowest-of Inv-loop μ-loop) where
   abbrev at-loop : tie.At-loop Inv-loop μ-loop
   at-loop = c .before .before
 
+  abbrev at-rows : tie.After-second-row Inv-loop μ-loop
+  at-rows = c .before .before .before
+
+  -- the multiplicity, and the generators and the seeds among them, as bits of a word
+  abbrev m : ℕ
+  m = at-rows .before .before .multiplicity-of .result
+
+  abbrev up : ℕ
+  up = at-rows .before .before .before .before .before .args .n .conductor - 1
+
+  abbrev generators : ℕ
+  generators = at-rows .before .first-row .result * 2 ^ up % 2 ^ 64
+
+  abbrev seeds : ℕ
+  seeds = bitAnd (at-rows .before .first-row .result) (at-rows .second-row .result) * 2 ^ up % 2 ^ 64
+
   -- the lowest generator, taken off the others
   lowest : TakenOff (at-loop .loop .rest) (c .lowest-of .result .at .0) (c .lowest-of .result .rest)
   lowest = upper-lowest (at-loop .loop .inv .0) (omega arith) (c .lowest-of .ensures)
 
-  -- the new gaps below the child without it
-  told : let at-rows = at-loop .before in
-      let n = at-rows .before .before .before .before .before .args .n in
-      let row = at-rows .before .first-row .result in
-      ChildWords (n .word) (at-rows .before .before .multiplicity-of .result) (row * 2 ^ (n .conductor - 1) % 2 ^ 64)
-      (bitAnd row (at-rows .second-row .result) * 2 ^ (n .conductor - 1) % 2 ^ 64) (c .lowest-of .result .at .0)
-  told = rows (at-loop .before) .child _ (upper-bit (at-loop .loop .inv .0) (omega arith) (c .lowest-of .ensures))
+  -- the words below the child without it
+  told : ChildWords (at-rows .before .before .before .before .before .args .n .word) m generators seeds (c .lowest-of .result .at .0)
+  told = rows at-rows .child _ (upper-bit (at-loop .loop .inv .0) (omega arith) (c .lowest-of .ensures))
 
-  -- the others are those above it
-  others : let at-rows = at-loop .before in
-      let n = at-rows .before .before .before .before .before .args .n in
-      c .lowest-of .result .rest ≡ above (at-rows .before .first-row .result * 2 ^ (n .conductor - 1) % 2 ^ 64) (c .lowest-of .result .at .0)
-  others = upper-rest (at-loop .loop .inv .0) (omega arith) (c .lowest-of .ensures)
+  -- have the new gaps that are made of it and of the others
+  bits : bitOr (c .lowest-of .result .rest) (bitAnd seeds (at-loop .loop .rest - c .lowest-of .result .rest) * 2 ^ m % 2 ^ 64) ≡ newGaps m generators seeds (c .lowest-of .result .at .0)
+  bits = ap₂ (λ (r e : ℕ). bitOr r (bitAnd seeds e * 2 ^ m % 2 ^ 64)) (upper-rest (at-loop .loop .inv .0) (omega arith) (c .lowest-of .ensures)) (lowest .value)
 
-  -- the words below the child come first
-  parts : let start = at-loop .before .before .before .before .before .before in
-      let w : ℕ = start .args .n .word in
-      putAll (leaves 1 (childWord w (suc (c .lowest-of .result .at .0))) ++ gapBranches 1 w (c .lowest-of .result .rest)) (at-loop .loop .out, upTo (at-loop .loop .at))
-      ≡ putAll (leaves 2 w) (now (start .args .out), upTo (start .args .from))
-  parts = sym (ap (λ (l : List ℕ). putAll l (at-loop .loop .out, upTo (at-loop .loop .at))) (gap-branches-first _ lowest 1)) ∙ at-loop .loop .inv .3
-
--- they are put
+-- and the words below the child are put
 put : (c : tie.After-put-bits Inv-loop μ-loop) →
     let low = c .before .before .before .before in
     let at-loop = low .before .before in
     (c .put-bits .last .1 .1 .1 .0, c .put-bits .result)
     ≡ putAll (leaves 1 (childWord (at-loop .before .before .before .before .before .before .args .n .word) (suc (low .lowest-of .result .at .0)))) (at-loop .loop .out, upTo (at-loop .loop .at))
-put c = let low = c .before .before .before .before in rw (gap-word _ (lowest low), lowest low .value, others low, ← told low .below) at (c .put-bits .ensures)
+put c =
+    let low = c .before .before .before .before in
+    let now = low .before .before .loop in
+    c .put-bits .ensures
+    ∙ ap₂ (λ (v b : ℕ). putAll (gapBranches 0 v b) (now .out, upTo (now .at))) (gap-word _ (lowest low)) (bits low)
+    ∙ ap (λ (l : List ℕ). putAll l (now .out, upTo (now .at))) (sym (told low .below))
 
 loop-holds : tie.Need-loop-holds Inv-loop μ-loop
 loop-holds c = (upper-all (mod-lt _ (pow-pos 64)), c .before .before .before .before .before .pre .1 .1, refl, rw (rows c .all))
@@ -91,12 +97,13 @@ shl-put-bits c =
 put-bits-requires : tie.Need-put-bits-requires Inv-loop μ-loop
 put-bits-requires c κs =
     let low = c .before .before .before in
-    (rw (gap-word _ (lowest low), lowest low .value, others low) (told low .fits), low .before .before .loop .inv .1)
+    (rw (gap-word _ (lowest low), bits low) (told low .fits), low .before .before .loop .inv .1)
 
 returns : tie.Need-returns Inv-loop μ-loop
 returns c =
     let at-put = c .before .before .before .before in
-    sym (sym (parts (at-put .before .before .before .before)) ∙ put-stops _ _ _ _ (put at-put) (omega (arith, c .if1 .taken)))
+    let low = at-put .before .before .before .before in
+    sym (sym (low .before .before .loop .inv .3) ∙ put-stops _ _ (gap-branches-first _ (lowest low) 1) _ _ (put at-put) (omega (arith, c .if1 .taken)))
 
 loop-again : tie.Need-loop-again Inv-loop μ-loop
 loop-again c =
@@ -106,7 +113,7 @@ loop-again c =
       upper-again (now .inv .0) (omega arith) (low .lowest-of .ensures),
       omega (arith, c .if1 .left),
       at-put .put-bits .kept .1 .1 .1 .0 ∙ now .inv .2,
-      sym (put-follows _ _ _ _ (put at-put) (omega (arith, c .if1 .left))) ∙ parts low,
+      sym (put-follows _ _ (gap-branches-first _ (lowest low) 1) _ _ (put at-put) (omega (arith, c .if1 .left))) ∙ now .inv .3,
     )
 
 returns-2 : tie.Need-returns-2 Inv-loop μ-loop

@@ -1,15 +1,14 @@
 -- `walk::put_while_room` meets its contract. What is left to put makes, with what was put, all that there is to put. Assumes nothing.
-use Prim.Native.Nat.{ℕ, _^_, _≤_, _<_}
-use mathlib.Core.Path.{_≡_, refl, sym, ap, _∙_}
-use mathlib.Core.List.{List}
+use Prim.Native.Nat.{_^_, _≤_, _<_}
+use mathlib.Core.Path.{_≡_, refl, sym, _∙_}
 use native.Mathlib.Omega.{arith}
 use lib.ListN.{length}
 use Rattle.words.specs.Tree.{leaves}
-use Rattle.tables.proofs.Branches.{TakenOff, taken-off}
+use Rattle.tables.proofs.Branches.{TakenOff, taken-off, lowest-in, others-in}
 use Rattle.walk.specs.Lending.{upTo, putAll}
 use Rattle.walk.specs.NewGaps.{gapBranches, GapsFit}
 use Rattle.walk.proofs.Lending.{put-stops, put-follows}
-use Rattle.walk.proofs.NewGaps.{gap-branches-none, gap-branches-first, gap-word, fits-first, fits-rest}
+use Rattle.walk.proofs.NewGaps.{gap-branches-none, gap-branches-first, gap-word}
 use Rattle.walk.proofs.put_while_room.Statement.{statement}
 use Rattle.walk.proofs.put_while_room.Tie as tie
 
@@ -26,7 +25,7 @@ lowest : (c : tie.After-lowest-of Inv-loop μ-loop) → TakenOff (c .before .bef
 lowest c = taken-off _ (omega arith) (c .before .before .loop .inv .0) (c .lowest-of .ensures)
 
 add-put : tie.Need-add-put Inv-loop μ-loop
-add-put c = rw (gap-word _ (lowest (c .before))) record { fits = fits-first _ (lowest (c .before)) (c .before .before .before .loop .inv .1) }
+add-put c = rw (gap-word _ (lowest (c .before))) record { fits = c .before .before .before .loop .inv .1 _ (lowest-in (lowest (c .before))) }
 
 returns : tie.Need-returns Inv-loop μ-loop
 unfolding leaves
@@ -35,8 +34,7 @@ returns c =
     let low = at-put .before .before .before in
     let at = low .before .before .loop in
     let l = lowest low in
-    sym (sym (at .inv .4) ∙ ap (λ (k : List ℕ). putAll k (at .out, upTo (at .at))) (gap-branches-first _ l 0)
-    ∙ put-stops _ _ _ _ (rw (gap-word _ l) at (at-put .put .ensures)) (omega (arith, c .if1 .taken)))
+    sym (sym (at .inv .4) ∙ put-stops _ _ (gap-branches-first _ l 0) _ _ (rw (gap-word _ l) at (at-put .put .ensures)) (omega (arith, c .if1 .taken)))
 
 loop-again : tie.Need-loop-again Inv-loop μ-loop
 unfolding leaves
@@ -46,11 +44,10 @@ loop-again c =
     let at = low .before .before .loop in
     let l = lowest low in (
       omega (arith, l .fewer),
-      fits-rest _ l (at .inv .1),
+      (λ i m. at .inv .1 i (others-in l m)),
       omega (arith, c .if1 .left),
       at-put .put .kept .1 .1 .0 ∙ at .inv .3,
-      sym (ap (λ (k : List ℕ). putAll k (at .out, upTo (at .at))) (gap-branches-first _ l 0)
-          ∙ put-follows _ _ _ _ (rw (gap-word _ l) at (at-put .put .ensures)) (omega (arith, c .if1 .left))) ∙ at .inv .4,
+      sym (put-follows _ _ (gap-branches-first _ l 0) _ _ (rw (gap-word _ l) at (at-put .put .ensures)) (omega (arith, c .if1 .left))) ∙ at .inv .4,
     )
 
 returns-2 : tie.Need-returns-2 Inv-loop μ-loop

@@ -1,8 +1,10 @@
 -- `walk::step` meets its contract: each refusal by its question, and else the words are put from the walk's on. Assumes nothing.
-use mathlib.Core.Path.{_≡_, sym, _∙_}
+use Prim.Native.Nat.{ℕ}
+use mathlib.Core.Path.{_≡_, sym, ap, _∙_}
 use mathlib.Core.Logic.{⊎-elim}
-use mathlib.Core.Bool.{true}
+use mathlib.Core.Bool.{Bool, true, cond}
 use native.Mathlib.Omega.{arith}
+use lib.ListN.{length}
 use borrow.Author.Needs.{needs}
 use borrow.Author.Tests.{not-true, not-false}
 use Rattle.tables.specs.Nodes.{nodeOf}
@@ -45,7 +47,10 @@ same-length c = search needs
 
 -- the number of words writtenCount
 count : (c : tie.Joined4) → let at-resume = c .before .before .before .before in c .if4 .count ≡ writtenCount (at-resume .resume .last .1 .1 .1 .1 .1 .0, at-resume .resume .result)
-count c = ⊎-elim (λ (test, e). e ∙ rw (test .taken)) (λ (test, e). e ∙ rw (test .left)) (c .if4 .came)
+count c =
+    let t = c .before .before .before .before .resume in
+    let chosen : Bool → ℕ = λ more. cond more (length (t .last .1 .1 .1 .1 .1 .0)) (t .result .at) in
+    ⊎-elim (λ (test, e). e ∙ sym (ap chosen (test .taken))) (λ (test, e). e ∙ sym (ap chosen (test .left))) (c .if4 .came)
 
 returns-4 : tie.Need-returns-4
 unfolding nodeOf
