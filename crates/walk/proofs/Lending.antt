@@ -74,6 +74,7 @@ put-more (x ∷ l) t h = ap (putAll l) (put-none x t h) ∙ put-more l t h
 
 -- l is the words of a and then those of b, and t is what became of the list when those of a were put
 module _ (a b : List ℕ) {l : List ℕ} (parts : l ≡ a ++ b) (o : List ℕ) (at : ℕ) {t : Lent} (e : t ≡ putAll a (o, upTo at)) where
+  -- to put l is then to put those of b
   split : putAll l (o, upTo at) ≡ putAll b t
   split = ap (λ (l : List ℕ). putAll l (o, upTo at)) parts ∙ put-append a b (o, upTo at) ∙ ap (putAll b) (sym e)
 

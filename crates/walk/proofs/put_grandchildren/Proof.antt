@@ -38,6 +38,7 @@ rows c =
     row-words _ (start .pre .0) (start .pre .1 .0) (c .before .before .multiplicity-of .ensures) (c .before .first-row .ensures) (c .second-row .ensures)
 
 module _ (c : tie.After-lowest-of Inv-loop μ-loop) where
+  -- where the loop stands, and where the rows were read
   abbrev at-loop : tie.At-loop Inv-loop μ-loop
   at-loop = c .before .before
 
