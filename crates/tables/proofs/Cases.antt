@@ -1,20 +1,26 @@
--- The known tables with their numbers, seeds, rows, children, nodes and numbers of grandchildren, computed from the definitions. Assumes nothing.
+-- The known tables with their numbers, seeds, rows, children, nodes and numbers of grandchildren and great-grandchildren, computed from the
+-- definitions. Assumes nothing.
 use Prim.Native.Nat.{ℕ}
 use mathlib.Core.Path.{_≡_, refl}
 use mathlib.Core.Bool.{true, false}
-use mathlib.Core.List.{[], _∷_, map}
+use mathlib.Core.List.{List, [], _∷_, map}
+use lib.Count.{ones}
+use lib.ListN.{length}
 use Rattle.words.specs.Lists.{run, keep, keepIf, every, joined, lastOr}
 use Rattle.words.specs.Sets.{sumOfTwo}
 use Rattle.words.specs.Words.{bit, setOf, gaps, genus, digit, largestGap, conductor, closed, childWord, ofBits}
 use Rattle.words.specs.Elements.{elementsBelow, elementAt, multiplicity, generator, rightGenerators}
 use Rattle.words.specs.GenusList.{risings}
 use Rattle.words.specs.GapLists.{setMissing, closedGaps, extensions}
+use Rattle.words.specs.Tree.{leaves}
 use Rattle.words.specs.Answers.{Answer, refused, given, askWord}
 use Rattle.tables.specs.Seeds.{leftAfter, seedOfOrder, orderOneSeed, seed, row, firstRowOnes, seedBits, seedTable}
 use Rattle.tables.specs.Child.{struck, struckBits, padded, lastThreeSet, childBits}
-use Rattle.tables.specs.Nodes.{nodeOf, firstRow, secondRow}
+use Rattle.tables.specs.Nodes.{nodeOf, firstRow, secondRow, rowAt, rowOfChild, childRow}
 use Rattle.tables.specs.Grandchildren.{grandchildCount}
+use Rattle.tables.specs.GreatGrandchildren.{triples, weight, greatCountByWeights, greatCountByRows}
 use Rattle.tables.specs.Answers.{nodeAnswer, tableOf, childOf, childElements, grandchildrenOf}
+use Rattle.tables.specs.declared.Node.{Node}
 use Rattle.tables.specs.declared.Table.{Table}
 
 -- a table, and the number of 1s in its row 0
@@ -81,3 +87,22 @@ known-seeds = (refl, refl, refl, refl)
 pub known-rows : (map (λ w. firstRow (nodeOf w)) (111 ∷ 6527 ∷ []) ≡ 27 ∷ 11 ∷ []) × (map (λ w. secondRow (nodeOf w)) (111 ∷ 6527 ∷ []) ≡ 7 ∷ 2 ∷ [])
 unfolding run keep keepIf every joined bit setOf gaps genus lastOr largestGap conductor elementsBelow elementAt multiplicity sumOfTwo leftAfter seed row seedBits digit ofBits seedTable nodeOf firstRow secondRow
 known-rows = (refl, refl)
+
+-- rows 0 and 1 of the child of the word 91 at 10, by rows 0, 1 and 2 of its node, which are 5, 5 and 3
+pub known-child-rows : let n : Node = record { word = 91; table = 237; conductor = 8 } in map (λ i. childRow n i 2) (0 ∷ 1 ∷ []) ≡ 4 ∷ 0 ∷ []
+unfolding run keep keepIf bit setOf elementsBelow elementAt digit rowAt rowOfChild childRow
+known-child-rows = refl
+
+-- the great-grandchildren by rows 0, 1 and 2, as source 001 states their number, and in the tree: of the word 91, of whose two generators both are
+-- order-one seeds; of 79, where of two order-two seeds one has a 1 as many entries on as row 1 has; of 463, where one such seed of two is no
+-- generator; of 159, which has three generators; and of 427392895, the example of source 001
+pub known-great-grandchildren : let words : List ℕ = 91 ∷ 79 ∷ 463 ∷ 159 ∷ 427392895 ∷ [] in
+    (map (λ w. greatCountByRows (nodeOf w)) words ≡ 3 ∷ 2 ∷ 1 ∷ 5 ∷ 6 ∷ []) × (map greatCountByWeights words ≡ 3 ∷ 2 ∷ 1 ∷ 5 ∷ 6 ∷ [])
+    × (map (λ w. length (leaves 3 w)) words ≡ 3 ∷ 2 ∷ 1 ∷ 5 ∷ 6 ∷ [])
+unfolding run keep keepIf every joined bit setOf gaps genus lastOr largestGap conductor childWord elementsBelow elementAt multiplicity generator rightGenerators leaves sumOfTwo leftAfter seed row seedBits digit ofBits seedTable nodeOf firstRow secondRow rowAt triples weight greatCountByWeights greatCountByRows ones
+known-great-grandchildren = (refl, refl, refl)
+
+-- where k is below 3 that is another number: of the word 11, with k = 2, and of the word 3, with k = 1 and m = 3, which the source leaves out
+pub known-below-three : (map greatCountByWeights (11 ∷ 3 ∷ []) ≡ 1 ∷ 1 ∷ []) × (map (λ w. length (leaves 3 w)) (11 ∷ 3 ∷ []) ≡ 3 ∷ 11 ∷ [])
+unfolding run keep keepIf every joined bit setOf gaps genus lastOr largestGap conductor childWord elementsBelow elementAt multiplicity generator rightGenerators leaves sumOfTwo leftAfter seed row seedBits digit ofBits seedTable triples weight greatCountByWeights ones
+known-below-three = (refl, refl)

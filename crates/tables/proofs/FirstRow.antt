@@ -1,35 +1,33 @@
 -- The right generators of a word, from the first row of its table, and their number. Assumes nothing.
-use Prim.Native.Nat.{ℕ, _+_, _-_, _/_, _%_, _^_, _≤_, _<_}
-use mathlib.Core.Path.{_≡_, sym, ap, ap₂, _∙_}
+use Prim.Native.Nat.{ℕ, _+_, _-_, _%_, _^_, _≤_, _<_}
+use mathlib.Core.Path.{_≡_, sym, ap, _∙_}
 use mathlib.Core.Bool.{Bool, true}
 use mathlib.Core.List.{List, map, Memᴰ·map, Memᴰ·of-map, Memᴰ·cast}
 use native.Mathlib.Omega.{arith}
-use native.Mathlib.Nat.{zero-add, le-dest, div-one}
+use native.Mathlib.Nat.{zero-add, le-dest}
 use lib.ListN.{length, length-map}
 use Rattle.words.specs.Lists.{run, keep}
 use Rattle.words.specs.Words.{bit, conductor, genus, closed}
 use Rattle.words.specs.Positions.{positions}
-use Rattle.words.specs.Elements.{elementAt, multiplicity, generator, rightGenerators}
+use Rattle.words.specs.Elements.{multiplicity, generator, rightGenerators}
 use Rattle.words.proofs.Lists.{map-run, ordered-map, ordered-unique}
 use Rattle.words.proofs.Kept.{keep-map}
 use Rattle.words.proofs.StandingBits.{positions-mem, mem-positions, positions-ordered}
-use Rattle.words.proofs.Elements.{element-zero, multiplicity-element, genus-lt-conductor, multiplicity-le-conductor, generator-offset, right-generators-mem, mem-right-generators, right-generators-ordered}
+use Rattle.words.proofs.Elements.{genus-lt-conductor, multiplicity-le-conductor, generator-offset, right-generators-mem, mem-right-generators, right-generators-ordered}
 use Rattle.words.proofs.Closure.{conductor-le-64}
 use Rattle.tables.specs.Seeds.{seed, row, firstRowOnes, seedTable}
-use Rattle.tables.proofs.Orders.{entry-tells, row-part, order-zero}
+use Rattle.tables.specs.Nodes.{nodeOf, firstRow}
+use Rattle.tables.proofs.Orders.{entry-tells, order-zero}
+use Rattle.tables.proofs.Rows.{first-jump, first-row-at, row-at-bit}
 
 module _ (w : ℕ) (fits : w < 2 ^ 64) where
-  -- row 0 has m entries
-  first-size : elementAt w 1 - elementAt w 0 ≡ multiplicity w
-  first-size = omega (arith, element-zero w fits, multiplicity-element w fits)
-
-  -- they tell which of the m numbers from the conductor on are generators
+  -- the entries of row 0 tell which of the m numbers from the conductor on are generators
   row-generators : row w 0 ≡ map (generator w) (run (conductor w) (multiplicity w))
   unfolding row
   row-generators =
       map-run (seed w 0) (generator w) 0 (conductor w) _ (λ j l.
       ap (seed w 0) (zero-add j) ∙ entry-tells w fits 0 (omega (arith, genus-lt-conductor w fits)) j ∙ order-zero w fits (conductor w + j) (omega arith))
-      ∙ ap (λ (n : ℕ). map (generator w) (run (conductor w) n)) first-size
+      ∙ ap (λ (n : ℕ). map (generator w) (run (conductor w) n)) (first-jump w fits)
 
   -- so that its 1s are as many as the generators not below the conductor
   pub first-row-ones : firstRowOnes w ≡ length (rightGenerators w)
@@ -42,17 +40,12 @@ module _ (w : ℕ) (fits : w < 2 ^ 64) where
   abbrev rowNumber : ℕ
   rowNumber = seedTable w % 2 ^ multiplicity w
 
-  -- it is the part of the table that is row 0
-  first-part : seedTable w / 2 ^ elementAt w 0 % 2 ^ (elementAt w 1 - elementAt w 0) ≡ rowNumber
-  first-part =
-      let whole : seedTable w / 2 ^ elementAt w 0 ≡ seedTable w = ap (λ (n : ℕ). seedTable w / 2 ^ n) (element-zero w fits) ∙ div-one (seedTable w) in
-      ap₂ (λ (t n : ℕ). t % 2 ^ n) whole first-size
-
   -- its bit d tells whether the conductor plus d is a generator
   pub row-bit : (d : ℕ) → bit (seedTable w % 2 ^ multiplicity w) d ≡ generator w (conductor w + d)
+  unfolding nodeOf firstRow
   row-bit d =
-      ap (λ (t : ℕ). bit t d) (sym first-part) ∙ row-part w fits 0 (omega (arith, genus-lt-conductor w fits)) d
-      ∙ order-zero w fits (conductor w + d) (omega arith)
+      let low : 0 < conductor w - genus w = omega (arith, genus-lt-conductor w fits) in
+      ap (λ (t : ℕ). bit t d) (first-row-at (nodeOf w) fits) ∙ row-at-bit w fits 0 low d ∙ entry-tells w fits 0 low d ∙ order-zero w fits (conductor w + d) (omega arith)
 
   -- the offsets of the right generators from the conductor are the positions of the bits that stand in the first row
   pub right-generators-row : closed w ≡ true → genus w ≤ 32

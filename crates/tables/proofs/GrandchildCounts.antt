@@ -18,6 +18,7 @@ use Rattle.words.specs.Words.{bit, setOf, gaps, genus, largestGap, conductor, c
 use Rattle.words.specs.Positions.{positions}
 use Rattle.words.specs.Elements.{multiplicity, generator, rightGenerators}
 use Rattle.words.specs.GenusList.{risings, descendantCount}
+use Rattle.words.specs.Tree.{leaves}
 use Rattle.words.specs.GapLists.{setMissing, closedGaps, extensions, Extends, AllGapLists}
 use Rattle.words.specs.Answers.{Accepted, refused, given}
 use Rattle.words.proofs.Booleans.{by-value}
@@ -29,14 +30,16 @@ use Rattle.words.proofs.Closure.{multiplicity-from-two}
 use Rattle.words.proofs.GenusList.{word-nonzero}
 use Rattle.words.proofs.Answers.{asked}
 use Rattle.words.proofs.First.{first-of-genus, first-conductor, first-multiplicity}
+use Rattle.words.proofs.Leaves.{descendants-leaves}
 use Rattle.words.proofs.GapLists.{gap-lists-unique, extensions-all, extensions-count}
 use Rattle.tables.specs.Seeds.{orderOneSeed}
 use Rattle.tables.specs.Nodes.{nodeOf, firstRow, secondRow}
 use Rattle.tables.specs.Grandchildren.{grandchildCount, pairs, countByGenerators, countByRows, grandchildrenAt}
+use Rattle.tables.specs.Levels.{Levels}
 use Rattle.tables.specs.Answers.{grandchildrenOf}
 use Rattle.tables.specs.declared.Node.{Node}
-use Rattle.tables.proofs.SecondRow.{second-row-bit}
-use Rattle.tables.proofs.ChildGenerators.{generator-without}
+use Rattle.tables.proofs.Rows.{second-row-bit}
+use Rattle.tables.proofs.SeedsWithout.{generator-without}
 use Rattle.tables.proofs.Ordinary.{ordinary-generators, newFrom, none-of, none-without}
 use Rattle.tables.proofs.Nodes.{first-row-generators, first-row-fits, first-row-count}
 use Rattle.tables.proofs.GrandchildLists.{by-new-generators}
@@ -118,6 +121,13 @@ module _ (w : ℕ) (fits : w < 2 ^ 64) (c : closed w ≡ true) (two : 2 ≤ cond
     pub grandchildren-by-rows : countByGenerators w ≡ countByRows (nodeOf w)
     unfolding countByGenerators countByRows
     grandchildren-by-rows = ap₂ (λ (a b : ℕ). pairs a + b) (first-row-count w fits c few) both-count
+
+  -- up to genus 30 it is that of the words two levels below
+  pub rows-count : Levels 2 w → countByRows (nodeOf w) ≡ length (leaves 2 w)
+  unfolding descendantCount
+  rows-count at =
+      sym (grandchildren-by-rows (omega (arith, at .few))) ∙ sym grandchildren-by-generators ∙ grandchildren-descendants w (omega (arith, at .few))
+      ∙ ap length (descendants-leaves 2 w fits c (at .few))
 
 -- ---- where k is 1
 

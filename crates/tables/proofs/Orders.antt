@@ -1,5 +1,5 @@
 -- Seeds by their orders, definition 1.1 of source 000: its lemma 1.2, and that the entries of row i tell the order-i seeds. Assumes nothing.
-use Prim.Native.Nat.{ℕ, suc, _+_, _-_, _/_, _%_, _^_, _≤_, _<_}
+use Prim.Native.Nat.{ℕ, suc, _+_, _-_, _/_, _%_, _^_, _≤_, _<_, max}
 use mathlib.Core.Path.{_≡_, sym, ap, ap₂, _∙_, fun-ext}
 use mathlib.Core.Bool.{Bool, true, false, not, _&&_, and-true, and-false}
 use native.Mathlib.Omega.{arith}
@@ -14,11 +14,23 @@ use Rattle.words.specs.Elements.{elementAt, generator}
 use Rattle.words.proofs.Lists.{getD-map-run, length-run}
 use Rattle.words.proofs.Bits.{bit-low, bit-shr}
 use Rattle.words.proofs.Sets.{sum-found}
-use Rattle.words.proofs.Elements.{element-le-conductor, conductor-pos, genus-lt-conductor, element-zero, element-in, element-rises, element-from-conductor, generator-from-conductor}
-use Rattle.tables.specs.Seeds.{leftAfter, seedOfOrder, seed, row, seedTable}
+use Rattle.words.proofs.Elements.{element-le-conductor, conductor-pos, genus-lt-conductor, element-zero, element-in, element-rises, element-next, element-from-conductor, generator-from-conductor}
+use Rattle.tables.specs.Seeds.{leftAfter, seedOfOrder, jump, seed, row, seedTable}
 use Rattle.tables.proofs.Seeds.{above-left, seed-entry, table-bit}
 
 module _ (w : ℕ) (fits : w < 2 ^ 64) where
+  -- a number not below the conductor plus the length of row i, and two or more past the element of index i, makes with it a sum of two of what is left
+  pub sum-past : (i x : ℕ) → conductor w + jump w i ≤ x → suc (elementAt w i) < x → sumOfTwo (leftAfter w i) (x + elementAt w i) ≡ true
+  sum-past i x far beyond =
+      let (c, this, next) : ℕ × ℕ × ℕ = (conductor w, elementAt w i, elementAt w (suc i)) in
+      let rise : this < next = element-rises w fits i in
+      let near : next ≤ max c (suc this) =
+      element-next w fits i (max c (suc this)) (element-from-conductor w fits (max c (suc this)) (omega arith)) (omega arith) in
+      let rest : ℕ = x + this - next in
+      sum-found (leftAfter w i) (x + this) next rest (omega arith) (omega arith) (omega arith)
+      (above-left w fits i next (element-in w fits (suc i)) rise)
+      (above-left w fits i rest (element-from-conductor w fits rest (omega arith)) (omega arith))
+
   module _ (i : ℕ) (low : i < conductor w - genus w) (x : ℕ) (high : conductor w ≤ x) where
     -- what is left holds x with the element of index i
     left : leftAfter w i (x + elementAt w i) ≡ true
@@ -30,14 +42,8 @@ module _ (w : ℕ) (fits : w < 2 ^ 64) where
     seed-sum = simp (le-leb (conductor w) x high, lt-ltb i (conductor w - genus w) low, left, lt-ltb 0 (x + elementAt w i) (omega (arith, conductor-pos w)))
 
     -- lemma 1.2: an order-i seed is below the conductor plus the length of row i
-    pub seed-bound : conductor w + (elementAt w (suc i) - elementAt w i) ≤ x → seedOfOrder w i x ≡ false
-    seed-bound far =
-        let next = element-le-conductor w fits (suc i) (omega arith) in
-        let rise = element-rises w fits i in
-        let rest : ℕ = x + elementAt w i - elementAt w (suc i) in
-        seed-sum ∙ ap not (sum-found (leftAfter w i) (x + elementAt w i) (elementAt w (suc i)) rest (omega arith) (omega arith) (omega arith)
-        (above-left w fits i (elementAt w (suc i)) (element-in w fits (suc i)) rise)
-        (above-left w fits i rest (element-from-conductor w fits rest (omega arith)) (omega arith)))
+    pub seed-bound : conductor w + jump w i ≤ x → seedOfOrder w i x ≡ false
+    seed-bound far = seed-sum ∙ ap not (sum-past i x far (omega (arith, element-rises w fits i, element-le-conductor w fits (suc i) (omega arith))))
 
   module _ (i : ℕ) (low : i < conductor w - genus w) (j : ℕ) where
     -- the length of row i

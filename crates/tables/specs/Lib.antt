@@ -4,4 +4,6 @@ pub mod Nodes
 pub mod Levels
 pub mod Branches
 pub mod Grandchildren
+pub mod GreatGrandchildren
+pub mod NewGaps
 pub mod Answers

@@ -2,11 +2,13 @@
 ghost use Prim.Native.Nat.{_-_, _^_, _≤_, _<_};
 ghost use mathlib.Core.Path.{_≡_};
 ghost use lib.Count.{ones};
+ghost use Rattle.words.specs.Elements.{elementAt};
 ghost use Rattle.words.specs.Answers.{Accepted, answered};
 ghost use Rattle.tables.specs.Child.{raked};
-ghost use Rattle.tables.specs.Nodes.{nodeOf, childNode, firstRow, secondRow, lowestOffset, nextOffset};
+ghost use Rattle.tables.specs.Nodes.{nodeOf, childNode, firstRow, secondRow, rowAt, RowFrom, lowestOffset, childlessAt, nextOffset};
 ghost use Rattle.tables.specs.Levels.{NodeWithLevels};
 ghost use Rattle.tables.specs.Grandchildren.{pairs, countByRows, grandchildrenAt};
+ghost use Rattle.tables.specs.GreatGrandchildren.{triples, greatCountByRows};
 ghost use Rattle.tables.specs.Answers.{noded, nodeAnswer, tabled, tableOf, childOf, grandchildrenOf};
 use words::Element;
 use words::Index;
@@ -66,6 +68,15 @@ fn pairs_among(n: u64) -> u64
     (n * n - n) / 2
 }
 
+// The number of triples among n.
+fn triples_among(n: u64) -> u64
+    requires { ⌜ n ≤ 65 ⌝ }
+    ensures { λ r. ⌜ r ≡ triples n ⌝ }
+{
+    let p = pairs_among(n);
+    (p * n - p - p) / 3
+}
+
 impl Node {
     // The node of the word 0.
     pub fn root() -> Node
@@ -106,12 +117,21 @@ impl Node {
         }
     }
 
+    // The row of the table that begins at an element of the word below 64: it has as many bits as the word, moved down by the element, has low
+    // bits that differ from those of the next number.
+    fn row_from(self, element: u64) -> u64
+        requires { ⌜ element < 64 ⌝ }
+        ensures { λ r. ⌜ RowFrom self element r ⌝ }
+    {
+        let later = self.word >> element;
+        (self.table >> element) & (later ^ std::num::wrapping_add_u64(later, 1))
+    }
+
     // Row 0 of the table: the offsets of the generators not below the conductor, as bits.
     pub fn first_row(self) -> u64
         ensures { λ r. ⌜ r ≡ firstRow self ⌝ }
     {
-        let w = self.word;
-        self.table & (w ^ std::num::wrapping_add_u64(w, 1))
+        self.row_from(0)
     }
 
     // The number of 1s in row 0: of the generators not below the conductor.
@@ -122,8 +142,7 @@ impl Node {
         u64::count_ones(row) as u64
     }
 
-    // Row 1 of the table: the offsets of the order-one seeds, as bits. It has as many bits as the word, moved down by the multiplicity,
-    // has low bits that differ from those of the next number.
+    // Row 1 of the table: the offsets of the order-one seeds, as bits. It begins at the multiplicity.
     pub fn second_row(self) -> u64
         ensures { λ r. ⌜ r ≡ secondRow self ⌝ }
     {
@@ -131,8 +150,29 @@ impl Node {
         if 63 < m {
             return 0;
         }
-        let later = self.word >> m;
-        (self.table >> m) & (later ^ (later + 1))
+        self.row_from(m)
+    }
+
+    // The second positive element, that of index 2. Each number above 64 is an element.
+    pub fn second_element(self) -> u64
+        ensures { λ r. ⌜ r ≡ elementAt (self .word) 2 ⌝ }
+    {
+        let m = words::multiplicity_of(self.word);
+        if 63 < m {
+            return m + 1;
+        }
+        m + words::multiplicity_of(self.word >> m)
+    }
+
+    // Row 2 of the table: the offsets of the order-two seeds, as bits. It begins at the second positive element.
+    pub fn third_row(self) -> u64
+        ensures { λ r. ⌜ r ≡ rowAt self 2 ⌝ }
+    {
+        let a = self.second_element();
+        if 63 < a {
+            return 0;
+        }
+        self.row_from(a)
     }
 
     // The number of grandchildren by rows 0 and 1 alone, where k is at least 2: each two generators not below the conductor make one, and each
@@ -148,6 +188,28 @@ impl Node {
         pairs_among(self.generators()) + u64::count_ones(both) as u64
     }
 
+    // The number of great-grandchildren by rows 0, 1 and 2 alone, where k is at least 3: each three generators not below the conductor make
+    // one, each of them that is an order-one seed makes one with each other, and each of them that is an order-two seed makes one where the
+    // table has a 1 as many entries on as row 1 has.
+    pub fn great_grandchildren_by_rows(self) -> u64
+        ensures { λ r. ⌜ r ≡ greatCountByRows self ⌝ }
+    {
+        let first = self.first_row();
+        if first == 0 {
+            return 0;
+        }
+        let n = self.generators();
+        let seeds = first & self.second_row();
+        let others = triples_among(n) + u64::count_ones(seeds) as u64 * (n - 1);
+        let a = self.second_element();
+        if 63 < a {
+            return others;
+        }
+        let u = a - words::multiplicity_of(self.word);
+        let last = first & self.row_from(a) & (self.table >> u);
+        others + u64::count_ones(last) as u64
+    }
+
     // The number of grandchildren: the word 0 and the words with k below 2 have no row 1.
     pub fn grandchildren(self) -> u64
         ensures { λ r. ⌜ r ≡ grandchildrenAt self ⌝ }
@@ -160,6 +222,24 @@ impl Node {
             return pairs_among(words::multiplicity_of(self.word)) + 3;
         }
         self.grandchildren_by_rows()
+    }
+
+    // Has the child at the lowest of some offsets no generators, as far as rows 0 and 1 tell it? The offsets are those of row 0 from one on. Where
+    // k is at least 2, the child has some exactly if an offset comes after its own, or its own is in row 1.
+    pub fn is_childless_at(self, low: Lowest) -> bool
+        ensures { λ r. ⌜ r ≡ childlessAt self (low .at .0) (low .rest) ⌝ }
+    {
+        if low.rest != 0 {
+            return false;
+        }
+        if self.conductor <= words::multiplicity_of(self.word) {
+            return false;
+        }
+        let at = low.at;
+        if 63 < at.0 {
+            return true;
+        }
+        self.second_row() >> at.0 & 1 != 1
     }
 
     // The offset of the word's first gap not below the conductor.
