@@ -7,20 +7,23 @@ use lib.ListN.{length, length-map}
 use lib.Pow.{pow-mono}
 use Rattle.words.specs.Words.{genus, conductor, childWord}
 use Rattle.words.specs.Positions.{positions}
-use Rattle.words.specs.Elements.{multiplicity, rightGenerators}
+use Rattle.words.specs.Elements.{elementAt, multiplicity, rightGenerators}
 use Rattle.words.specs.GenusList.{descendantCount}
 use Rattle.words.specs.Tree.{leaves}
 use Rattle.words.proofs.Lists.{joined-each, length-joined, sum-of-powers}
 use Rattle.words.proofs.StandingBits.{positions-ordered}
-use Rattle.words.proofs.Elements.{conductor-pos}
+use Rattle.words.proofs.Elements.{conductor-pos, multiplicity-element}
 use Rattle.words.proofs.Tree.{count-bound}
 use Rattle.words.proofs.Leaves.{descendants-leaves}
 use Rattle.tables.specs.Grandchildren.{countByRows}
+use Rattle.tables.specs.GreatGrandchildren.{greatCountByRows}
 use Rattle.tables.specs.Levels.{Levels, NodeWithLevels}
 use Rattle.tables.specs.Branches.{branches, Offsets}
 use Rattle.tables.specs.declared.Node.{Node}
 use Rattle.tables.proofs.Branches.{child-of, child-levels}
-use Rattle.tables.proofs.RowsBelow.{rows-count}
+use Rattle.tables.proofs.Rows.{index-below}
+use Rattle.tables.proofs.GrandchildCounts.{rows-count}
+use Rattle.tables.proofs.GreatGrandchildCounts.{great-rows-count}
 
 -- one level below a word there is one for each generator not below the conductor
 pub length-children : (w : ℕ) → length (leaves 1 w) ≡ length (rightGenerators w)
@@ -29,7 +32,14 @@ length-children w = ap length (joined-each (childWord w) (rightGenerators w)) �
 
 -- two levels below a node whose conductor is above its multiplicity, as many as rows 0 and 1 tell
 pub length-grandchildren : (n : Node) → NodeWithLevels 2 n → multiplicity (n .word) < conductor (n .word) → countByRows n ≡ length (leaves 2 (n .word))
-length-grandchildren n at later = ap countByRows (at .node) ∙ rows-count (n .word) (at .levels) later
+length-grandchildren n at later =
+    let o = at .levels in
+    let two = index-below (n .word) (o .fits) 1 (omega (arith, multiplicity-element (n .word) (o .fits))) in
+    ap countByRows (at .node) ∙ rows-count (n .word) (o .fits) (o .closed) two o
+
+-- three levels below a node whose conductor is above its second positive element, as many as rows 0, 1 and 2 tell
+pub length-great-grandchildren : (n : Node) → NodeWithLevels 3 n → elementAt (n .word) 2 < conductor (n .word) → greatCountByRows n ≡ length (leaves 3 (n .word))
+length-great-grandchildren n at below = ap greatCountByRows (at .node) ∙ great-rows-count (n .word) (at .levels) (index-below (n .word) (at .levels .fits) 2 below)
 
 -- with c the conductor of a word, at most 2 ^ (64 - c) leaves are below it
 pub leaves-bound : (r w : ℕ) → Levels r w → length (leaves r w) ≤ 2 ^ (64 - conductor w)

@@ -82,6 +82,9 @@ module _ (a b : List ℕ) {l : List ℕ} (parts : l ≡ a ++ b) (o : List ℕ) (
   kept : Kept (o, upTo at) t
   kept = rw e (kept-all a (o, upTo at) (λ h. refl))
 
+  pub put-same : length (t .0) ≡ length o
+  put-same = kept .same
+
   -- where one of them found no room, those of b are not put
   pub put-stops : length o < t .1 .at → putAll l (o, upTo at) ≡ t
   put-stops h = split ∙ put-more b t (omega (arith, kept .same))
@@ -91,6 +94,41 @@ module _ (a b : List ℕ) {l : List ℕ} (parts : l ≡ a ++ b) (o : List ℕ) (
   put-follows h =
       let told = kept .told (omega (arith, kept .same)) in
       split ∙ ap (λ (n : ℕ). putAll b (t .0, record { at = t .1 .at; next = n })) told
+
+-- ---- a loop that puts words
+
+-- what holds at its head: `below` has the words of some bits, `rest` has the bits that are left, and all were left when the list was `lent`, filled
+-- up to `from`: to put the words that are left is to put all
+pub record Putting (below : ℕ → List ℕ) (bits : ℕ) (lent : List ℕ) (from rest : ℕ) (out : List ℕ) (at : ℕ) : Type 0 where
+  pub room : at ≤ length out
+  pub same : length out ≡ length lent
+  pub whole : putAll (below rest) (out, upTo at) ≡ putAll (below bits) (lent, upTo from)
+
+-- it begins with all bits
+pub putting-all : {below : ℕ → List ℕ} {bits : ℕ} {lent : List ℕ} {from : ℕ} → from ≤ length lent → Putting below bits lent from bits lent from
+putting-all room = record { room = room; same = refl; whole = refl }
+
+module _ {below : ℕ → List ℕ} {bits from rest at : ℕ} {lent out : List ℕ} (p : Putting below bits lent from rest out at) where
+  -- it ends where no word is left
+  pub putting-none : below rest ≡ [] → (out, upTo at) ≡ putAll (below bits) (lent, upTo from)
+  unfolding putAll
+  putting-none none = ap (λ (l : List ℕ). putAll l (out, upTo at)) (sym none) ∙ p .whole
+
+  -- it goes on at the same place where a bit has no words
+  pub putting-over : (others : ℕ) → below rest ≡ below others → Putting below bits lent from others out at
+  putting-over others same = record { room = p .room; same = p .same; whole = ap (λ (l : List ℕ). putAll l (out, upTo at)) (sym same) ∙ p .whole }
+
+  -- first are the words of one bit and others has the bits after it; t is what became of the list when the words were put
+  module _ (first : List ℕ) (others : ℕ) (parts : below rest ≡ first ++ below others) {t : Lent} (e : t ≡ putAll first (out, upTo at)) where
+    -- it ends where one of them found no room
+    pub putting-stops : length out < t .1 .at → t ≡ putAll (below bits) (lent, upTo from)
+    putting-stops h = sym (put-stops first (below others) parts out at e h) ∙ p .whole
+
+    -- else it goes on with the others
+    pub putting-on : t .1 .at ≤ length out → Putting below bits lent from others (t .0) (t .1 .at)
+    putting-on h =
+        let same = put-same first (below others) parts out at e in
+        record { room = omega arith; same = same ∙ p .same; whole = sym (put-follows first (below others) parts out at e h) ∙ p .whole }
 
 -- ---- all of a list
 

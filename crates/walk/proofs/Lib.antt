@@ -7,5 +7,3 @@ pub mod Batches
 pub mod Counts
 pub mod Descendants
 pub mod Values
-pub mod NewGaps
-pub mod RowGaps

@@ -2,4 +2,3 @@ pub mod Answers
 pub mod Walks
 pub mod Cut
 pub mod Lending
-pub mod NewGaps

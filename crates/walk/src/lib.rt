@@ -6,17 +6,18 @@ ghost use mathlib.Core.List.{[], _∷_, head?, List·Memᴰ};
 ghost use lib.ListN.{length};
 ghost use Rattle.words.specs.Lists.{onFrom};
 ghost use Rattle.words.specs.Words.{conductor};
-ghost use Rattle.words.specs.Elements.{multiplicity};
+ghost use Rattle.words.specs.Elements.{elementAt, multiplicity};
 ghost use Rattle.words.specs.Positions.{above};
 ghost use Rattle.words.specs.Answers.{answered, sought, soughtAnswered};
 ghost use Rattle.words.specs.Tree.{leaves};
+ghost use Rattle.tables.specs.Nodes.{firstRow};
 ghost use Rattle.tables.specs.Levels.{NodeWithLevels};
 ghost use Rattle.tables.specs.Branches.{branches, Offsets};
+ghost use Rattle.tables.specs.NewGaps.{gapBranches, GapsFit, TwoRows, Upper};
 ghost use Rattle.walk.specs.Answers.{begun};
 ghost use Rattle.walk.specs.Walks.{inOrder, ended, freshOf, freshInOf, startOf, startInOf, batchOf, countOf, firstDescendantOf};
 ghost use Rattle.walk.specs.Cut.{fromMultiplicity};
 ghost use Rattle.walk.specs.Lending.{upTo, putAll};
-ghost use Rattle.walk.specs.NewGaps.{gapBranches, GapsFit};
 use tables::Node;
 use tables::NodeAnswer;
 use windows::FirstAnswer;
@@ -71,7 +72,8 @@ fn later(row: u64, offset: Offset) -> u64
 }
 
 // How many words there are `left` levels below a node: one level below it, as many as the node says; two levels below a node whose conductor
-// is above its multiplicity, as many as rows 0 and 1 tell.
+// is above its multiplicity, as many as rows 0 and 1 tell; three levels below a node whose conductor is above its second positive element, as
+// many as rows 0, 1 and 2 tell.
 fn count_node(n: Node, left: u64) -> u64
     requires { ⌜ NodeWithLevels left n ⌝ }
     ensures { λ r. ⌜ r ≡ length (leaves left (n .word)) ⌝ }
@@ -87,28 +89,36 @@ fn count_node(n: Node, left: u64) -> u64
             return n.grandchildren_by_rows();
         }
     }
-    sum_from(n, n.first_row(), left - 1)
+    if left == 3 {
+        if n.second_element() < n.conductor {
+            return n.great_grandchildren_by_rows();
+        }
+    }
+    sum_from(n.word, n.table, n.conductor, n.first_row(), left - 1)
 }
 
-// How many there are `left` levels below those children of a node whose offsets are the bits of `row`: the count of the first child plus the
-// sum from the next on. A child without generators has none.
-fn sum_from(n: Node, row: u64, left: u64) -> u64
+// How many there are `left` levels below those children of a node, given by its parts, whose offsets are the bits of `row`, those of row 0 from one
+// on: the sum from a generator on is that child's count plus the sum from the next. A child without generators has none, and is not made.
+fn sum_from(word: u64, table: u64, c: u64, row: u64, left: u64) -> u64
     requires { ⌜ 1 ≤ left ⌝ }
-    requires { ⌜ NodeWithLevels (left + 1) n ⌝ }
-    requires { ⌜ Offsets (n .word) row ⌝ }
-    ensures { λ r. ⌜ r ≡ length (branches left (n .word) row) ⌝ }
+    requires { ⌜ NodeWithLevels (left + 1) record { word = word; table = table; conductor = c } ⌝ }
+    requires { ⌜ Upper (firstRow record { word = word; table = table; conductor = c }) row ⌝ }
+    ensures { λ r. ⌜ r ≡ length (branches left word row) ⌝ }
 {
-    let mut rest = row;
-    let mut sum = 0;
-    while rest != 0 {
-        let low = tables::lowest_of(rest);
-        let child = n.child(low.at);
-        if child.first_row() != 0 {
-            sum += count_node(child, left);
-        }
-        rest = low.rest;
+    if row == 0 {
+        return 0;
     }
-    sum
+    let low = tables::lowest_of(row);
+    let n = Node {
+        word,
+        table,
+        conductor: c,
+    };
+    let mut own = 0;
+    if !n.is_childless_at(low) {
+        own = count_node(n.child(low.at), left);
+    }
+    own + sum_from(word, table, c, low.rest, left)
 }
 
 // What was done with a lent list: the place after the words that were written; where a word found no room it is one past the end of the
@@ -199,25 +209,83 @@ fn put_children(n: Node, row: u64, at: usize, out: &mut [u64]) -> Filled
     put_bits(n.word, row << (n.conductor - 1), at, out)
 }
 
-// Writes the words two levels below a node whose conductor is above its multiplicity m, from rows 0 and 1 alone: for each generator e, in
-// order, the word without e and without a later generator, and last, where e is an order-one seed, that without e and e + m.
-fn put_grandchildren(n: Node, from: usize, out: &mut [u64]) -> Filled
-    requires { ⌜ NodeWithLevels 2 n ⌝ }
-    requires { ⌜ multiplicity (n .word) < conductor (n .word) ⌝ }
+// Writes the words two levels below a word of multiplicity m that has these generators not below its conductor; `seeds` tells which of them are
+// order-one seeds. As in a word, bit i is the number i + 1. For each generator e, in order, these are the word without e and without a later
+// generator, and last, where e is a seed, that without e and e + m.
+fn put_by_rows(
+    word: u64,
+    generators: u64,
+    seeds: u64,
+    m: u64,
+    from: usize,
+    out: &mut [u64],
+) -> Filled
+    requires { ⌜ TwoRows word m generators seeds ⌝ }
     requires { ⌜ from ≤ length (now out) ⌝ }
-    ensures { λ r. ⌜ (now (out .exit), r) ≡ putAll (leaves 2 (n .word)) (now (out .entry), upTo from) ⌝ }
+    ensures { λ r. ⌜ (now (out .exit), r) ≡ putAll (leaves 2 word) (now (out .entry), upTo from) ⌝ }
 {
-    let w = n.word;
-    let up = n.conductor - 1;
-    let m = words::multiplicity_of(w);
-    let row = n.first_row();
-    let seeds = (row & n.second_row()) << up;
-    let mut rest = row << up;
+    let mut rest = generators;
     let mut at = from;
     while rest != 0 {
         let low = tables::lowest_of(rest);
         let e = rest - low.rest;
-        let t = put_bits(w + e, low.rest | (seeds & e) << m, at, out);
+        let t = put_bits(word + e, low.rest | (seeds & e) << m, at, out);
+        if out.len() < t.at {
+            return t;
+        }
+        at = t.at;
+        rest = low.rest;
+    }
+    Filled { at, next: 0 }
+}
+
+// Writes the words two levels below a node whose conductor is above its multiplicity, from rows 0 and 1 alone.
+fn put_grandchildren(n: Node, at: usize, out: &mut [u64]) -> Filled
+    requires { ⌜ NodeWithLevels 2 n ⌝ }
+    requires { ⌜ multiplicity (n .word) < conductor (n .word) ⌝ }
+    requires { ⌜ at ≤ length (now out) ⌝ }
+    ensures { λ r. ⌜ (now (out .exit), r) ≡ putAll (leaves 2 (n .word)) (now (out .entry), upTo at) ⌝ }
+{
+    let up = n.conductor - 1;
+    let m = words::multiplicity_of(n.word);
+    put_by_rows(
+        n.word,
+        n.first_row() << up,
+        n.second_row() << up,
+        m,
+        at,
+        out,
+    )
+}
+
+// Writes the words three levels below a node whose conductor is above its second positive element, from rows 0, 1 and 2 alone: for each
+// generator e, in order, those two levels below the word without e. Its generators are the later ones and, where e is an order-one seed, e + m;
+// its order-one seeds are the later ones and, where e is an order-two seed, e + u, with u the length of row 1.
+fn put_great_grandchildren(n: Node, from: usize, out: &mut [u64]) -> Filled
+    requires { ⌜ NodeWithLevels 3 n ⌝ }
+    requires { ⌜ elementAt (n .word) 2 < conductor (n .word) ⌝ }
+    requires { ⌜ from ≤ length (now out) ⌝ }
+    ensures { λ r. ⌜ (now (out .exit), r) ≡ putAll (leaves 3 (n .word)) (now (out .entry), upTo from) ⌝ }
+{
+    let w = n.word;
+    let up = n.conductor - 1;
+    let m = words::multiplicity_of(w);
+    let u = n.second_element() - m;
+    let seeds = n.second_row() << up;
+    let last = n.third_row() << up;
+    let mut rest = n.first_row() << up;
+    let mut at = from;
+    while rest != 0 {
+        let low = tables::lowest_of(rest);
+        let e = rest - low.rest;
+        let t = put_by_rows(
+            w + e,
+            low.rest | (seeds & e) << m,
+            seeds | (last & e) << u,
+            m,
+            at,
+            out,
+        );
         if out.len() < t.at {
             return t;
         }
@@ -243,13 +311,19 @@ fn emit(n: Node, left: u64, at: usize, out: &mut [u64]) -> Filled
             return put_grandchildren(n, at, out);
         }
     }
+    if left == 3 {
+        if n.second_element() < n.conductor {
+            return put_great_grandchildren(n, at, out);
+        }
+    }
     emit_from(n, row, left - 1, at, out)
 }
 
-// Writes those `left` levels below the children of a node whose offsets are the bits of `row`.
+// Writes those `left` levels below the children of a node whose offsets are the bits of `row`, those of row 0 from one on. A child without
+// generators is not made.
 fn emit_from(n: Node, row: u64, left: u64, from: usize, out: &mut [u64]) -> Filled
     requires { ⌜ NodeWithLevels (left + 1) n ⌝ }
-    requires { ⌜ Offsets (n .word) row ⌝ }
+    requires { ⌜ Upper (firstRow n) row ⌝ }
     requires { ⌜ from ≤ length (now out) ⌝ }
     ensures { λ r. ⌜ (now (out .exit), r) ≡ putAll (branches left (n .word) row) (now (out .entry), upTo from) ⌝ }
 {
@@ -260,11 +334,13 @@ fn emit_from(n: Node, row: u64, left: u64, from: usize, out: &mut [u64]) -> Fill
     let mut at = from;
     while rest != 0 {
         let low = tables::lowest_of(rest);
-        let t = emit(n.child(low.at), left, at, out);
-        if out.len() < t.at {
-            return t;
+        if !n.is_childless_at(low) {
+            let t = emit(n.child(low.at), left, at, out);
+            if out.len() < t.at {
+                return t;
+            }
+            at = t.at;
         }
-        at = t.at;
         rest = low.rest;
     }
     Filled { at, next: 0 }

@@ -1,17 +1,25 @@
--- The proof of the cycle of calls {count_node, sum_from}. The levels below a node are the measure. The loop's invariant: what is left to
--- count makes, with what was counted, all that there is to count, which is less than 2 ^ 64, so that no sum wraps. Assumes nothing.
-use Prim.Native.Nat.{ℕ, _+_, _*_, _^_, _<_}
+-- The proof of the cycle of calls {count_node, sum_from}. The measure: 66 for each level below a node, and
+-- one more for each generator that is left. All that there is to count is less than 2 ^ 64, so that no sum wraps. Assumes nothing.
+use Prim.Native.Nat.{ℕ, suc, _+_, _*_, _^_, _<_}
+use mathlib.Core.Logic.{⊎-elim}
 use mathlib.Core.Path.{_≡_, sym, ap, _∙_, subst}
 use native.Mathlib.Omega.{arith}
 use lib.ListN.{length, length-append}
+use borrow.Author.Tests.{not-false}
 use borrow.Fn.Kinds.{In}
 use borrow.Fn.PlainCycle.{Measures, is, falls, and}
+use Rattle.words.specs.Positions.{positions}
 use Rattle.words.specs.Tree.{leaves}
+use Rattle.words.proofs.StandingBits.{positions-le}
 use Rattle.tables.specs.Levels.{NodeWithLevels}
+use Rattle.tables.specs.Nodes.{childNode}
 use Rattle.tables.specs.Branches.{branches, Offsets}
+use Rattle.tables.specs.declared.Node.{Node}
 use Rattle.tables.proofs.Levels.{node-conductor, node-generators}
-use Rattle.tables.proofs.Branches.{TakenOff, taken-off, branches-none, levels-below, Row, row-branches, no-leaves, FirstChild, first-child}
-use Rattle.walk.proofs.BranchCounts.{length-children, length-grandchildren, branches-fit}
+use Rattle.tables.proofs.NewGaps.{upper-equal, upper-lowest, upper-again}
+use Rattle.tables.proofs.Childless.{upper-offsets, childless-branches}
+use Rattle.tables.proofs.Branches.{TakenOff, branches-none, levels-below, Row, row-branches, FirstChild, first-child}
+use Rattle.walk.proofs.BranchCounts.{length-children, length-grandchildren, length-great-grandchildren, branches-fit}
 use Rattle.walk.proofs.count_node.Reads as count-node
 use Rattle.walk.proofs.count_node.Kinds as count-node-kinds
 use Rattle.walk.proofs.+count_node+sum_from.Lts-count_node as count-node-lts
@@ -22,16 +30,19 @@ use Rattle.tables.proofs.Node.child.Reads as child-reads
 use Rattle.tables.proofs.Node.first_row.Reads as first-row-reads
 use Rattle.tables.proofs.Node.generators.Reads as generators-reads
 use Rattle.tables.proofs.Node.grandchildren_by_rows.Reads as grandchildren-by-rows-reads
+use Rattle.tables.proofs.Node.great_grandchildren_by_rows.Reads as great-grandchildren-by-rows-reads
+use Rattle.tables.proofs.Node.is_childless_at.Reads as is-childless-at-reads
+use Rattle.tables.proofs.Node.second_element.Reads as second-element-reads
 use Rattle.tables.proofs.lowest_of.Reads as lowest-of-reads
 use Rattle.words.proofs.multiplicity_of.Reads as multiplicity-of-reads
 use Rattle.walk.proofs.+count_node+sum_from.{statement}
 use Rattle.walk.proofs.+count_node+sum_from.Tie.{close}
 
 abbrev μ-count-node : Measures 0 count-node-kinds.ps ℕ
-μ-count-node κs a = 2 * a .1 .0
+μ-count-node κs a = 66 * a .1 .0
 
 abbrev μ-sum-from : Measures 0 sum-from-kinds.ps ℕ
-μ-sum-from κs a = 2 * a .1 .1 .0 + 1
+μ-sum-from κs a = 66 * a .1 .1 .1 .1 .0 + length (positions (a .1 .1 .1 .0)) + 1
 
 abbrev count-node-at : ℕ → In 0 count-node-kinds.ps
 count-node-at t = and 0 count-node-kinds.ps (is 0 count-node-kinds.ps μ-count-node t) count-node.Pre
@@ -46,17 +57,10 @@ abbrev sum-from-below : ℕ → In 0 sum-from-kinds.ps
 sum-from-below t = and 0 sum-from-kinds.ps (falls 0 sum-from-kinds.ps _<_ μ-sum-from t) sum-from.Pre
 
 abbrev count-node-claims : ℕ → count-node-lts.Claims
-count-node-claims t = (generators-reads.Asked, generators-reads.Learnt, multiplicity-of-reads.Asked, multiplicity-of-reads.Learnt, grandchildren-by-rows-reads.Asked, grandchildren-by-rows-reads.Learnt, first-row-reads.Asked, first-row-reads.Learnt, sum-from-below t, sum-from.Post)
-
-abbrev sum-from-Inv-loop : sum-from-lts.InvT-loop
-sum-from-Inv-loop n row left rest₀ sum₀ rest sum =
-    (rest < 2 ^ 64) × Offsets (n .word) rest × (sum + length (branches left (n .word) rest) ≡ length (branches left (n .word) row))
-
-abbrev sum-from-μ-loop : sum-from-lts.MeasureT-loop
-sum-from-μ-loop n row left rest₀ sum₀ rest sum = rest
+count-node-claims t = (generators-reads.Asked, generators-reads.Learnt, multiplicity-of-reads.Asked, multiplicity-of-reads.Learnt, grandchildren-by-rows-reads.Asked, grandchildren-by-rows-reads.Learnt, second-element-reads.Asked, second-element-reads.Learnt, great-grandchildren-by-rows-reads.Asked, great-grandchildren-by-rows-reads.Learnt, first-row-reads.Asked, first-row-reads.Learnt, sum-from-below t, sum-from.Post)
 
 abbrev sum-from-claims : ℕ → sum-from-lts.Claims
-sum-from-claims t = (lowest-of-reads.Asked, lowest-of-reads.Learnt, child-reads.Asked, child-reads.Learnt, first-row-reads.Asked, first-row-reads.Learnt, count-node-below t, count-node.Post)
+sum-from-claims t = (lowest-of-reads.Asked, lowest-of-reads.Learnt, is-childless-at-reads.Asked, is-childless-at-reads.Learnt, child-reads.Asked, child-reads.Learnt, count-node-below t, count-node.Post, sum-from-below t, sum-from.Post)
 
 module _ (t : ℕ) where
   -- ---- count_node
@@ -80,74 +84,80 @@ module _ (t : ℕ) where
       rw (told .before .if3 .taken)
       (c .grandchildren-by-rows .ensures ∙ length-grandchildren (start .args .n) here (omega (arith, told .multiplicity-of .ensures, node-conductor _ _ here)))
 
+  -- three levels below it: what its rows tell
+  count-node-returns-4 : count-node-lts.Need-returns-4 (count-node-claims t) (count-node-at t) count-node.Post
+  count-node-returns-4 c =
+      let told = c .before .before .before in
+      let start = told .before .before .before .before .before in
+      let here = subst (λ (k : ℕ). NodeWithLevels k (start .args .n)) (told .before .if5 .taken) (start .pre .1) in
+      rw (told .before .if5 .taken)
+      (c .great-grandchildren-by-rows .ensures ∙ length-great-grandchildren (start .args .n) here (omega (arith, told .second-element .ensures, node-conductor _ _ here)))
+
   -- the node's first row
   row : (c : count-node-lts.After-first-row (count-node-claims t) (count-node-at t) count-node.Post) →
-      let start = c .before .before .before .before in Row (start .args .left) (start .args .n) (c .first-row .result)
-  row c = row-branches _ _ (c .before .before .before .if1 .left) (c .before .before .before .before .pre .1) (c .first-row .ensures)
+      let start = c .before .before .before .before .before in Row (start .args .left) (start .args .n) (c .first-row .result)
+  row c = row-branches _ _ (c .before .before .before .before .if1 .left) (c .before .before .before .before .before .pre .1) (c .first-row .ensures)
 
   count-node-sum-from-requires : count-node-lts.Need-sum-from-requires (count-node-claims t) (count-node-at t) count-node.Post
-  count-node-sum-from-requires c κs = (omega arith, (omega arith, (row c .node-levels, row c .offsets)))
+  count-node-sum-from-requires c κs = (omega (arith, positions-le (c .first-row .result)), (omega arith, (row c .node-levels, upper-equal (omega arith) (c .first-row .ensures))))
 
-  count-node-returns-4 : count-node-lts.Need-returns-4 (count-node-claims t) (count-node-at t) count-node.Post
-  count-node-returns-4 c = omega (arith, c .sum-from .ensures, ap length (row (c .before) .all))
+  count-node-returns-5 : count-node-lts.Need-returns-5 (count-node-claims t) (count-node-at t) count-node.Post
+  count-node-returns-5 c = omega (arith, c .sum-from .ensures, ap length (row (c .before) .all))
 
   -- ---- sum_from
 
-  sum-from-loop-holds : sum-from-lts.Need-loop-holds (sum-from-claims t) (sum-from-at t) sum-from.Post sum-from-Inv-loop sum-from-μ-loop
-  sum-from-loop-holds c = (c .fits .row .fits, c .pre .1 .1 .1, omega arith)
+  sum-from-returns : sum-from-lts.Need-returns (sum-from-claims t) (sum-from-at t) sum-from.Post
+  sum-from-returns c = rw (c .if1 .taken, branches-none)
 
-  -- the lowest offset, taken off the others
-  lowest : (c : sum-from-lts.After-lowest-of (sum-from-claims t) (sum-from-at t) sum-from.Post sum-from-Inv-loop sum-from-μ-loop)
-      → TakenOff (c .before .before .loop .rest) (c .lowest-of .result .at .0) (c .lowest-of .result .rest)
-  lowest c = taken-off _ (omega arith) (c .before .before .loop .inv .0) (c .lowest-of .ensures)
+  module _ (c : sum-from-lts.After-lowest-of (sum-from-claims t) (sum-from-at t) sum-from.Post) where
+    -- where it begins, and its node
+    abbrev start : sum-from-lts.Start (sum-from-claims t) (sum-from-at t) sum-from.Post
+    start = c .before .before
 
-  -- the child at the lowest offset, and the others
-  first : (c : sum-from-lts.After-child (sum-from-claims t) (sum-from-at t) sum-from.Post sum-from-Inv-loop sum-from-μ-loop) →
-      let at = c .before .before .before in
-      FirstChild (at .before .args .left) (at .before .args .n) (c .child .result) (at .loop .rest) (c .before .lowest-of .result .rest)
-  first c =
-      let at = c .before .before .before in
-      first-child _ _ (at .before .pre .1 .1 .0) (at .loop .inv .1) (lowest (c .before)) (c .child .ensures)
+    abbrev node : Node
+    node = record { word = start .args .word; table = start .args .table; conductor = start .args .c }
 
-  -- the words below it and below the others make, with what was counted, the count over the row
-  parts : (c : sum-from-lts.After-child (sum-from-claims t) (sum-from-at t) sum-from.Post sum-from-Inv-loop sum-from-μ-loop) →
-      let at = c .before .before .before in
-      let args = at .before .args in
-      at .loop .sum + length (leaves (args .left) (c .child .result .word)) + length (branches (args .left) (args .n .word) (c .before .lowest-of .result .rest))
-      ≡ length (branches (args .left) (args .n .word) (args .row))
-  parts c = omega (arith, simp length-append at (ap length (first c .parts)), c .before .before .before .loop .inv .2)
+    -- the lowest offset, taken off the others
+    lowest : TakenOff (start .args .row) (c .lowest-of .result .at .0) (c .lowest-of .result .rest)
+    lowest = upper-lowest (start .pre .1 .1 .1) (omega arith) (c .lowest-of .ensures)
 
-  -- without generators there is none below it
-  none : (c : sum-from-lts.Else1 (sum-from-claims t) (sum-from-at t) sum-from.Post sum-from-Inv-loop sum-from-μ-loop) →
-      let at-child = c .before .before in length (leaves (at-child .before .before .before .before .args .left) (at-child .child .result .word)) ≡ 0
-  none c =
-      let at-child = c .before .before in
-      let start = at-child .before .before .before .before in
-      ap length (no-leaves _ _ (λ e. omega (arith, start .pre .1 .0)) (first at-child .node-levels) (c .before .first-row .ensures) (omega (arith, c .if1 .left)))
+    -- of which there is one more than of these
+    fewer : length (positions (start .args .row)) ≡ suc (length (positions (c .lowest-of .result .rest)))
+    fewer = ap length (lowest .first)
 
-  sum-from-count-node-requires : sum-from-lts.Need-count-node-requires (sum-from-claims t) (sum-from-at t) sum-from.Post sum-from-Inv-loop sum-from-μ-loop
-  sum-from-count-node-requires c κs = (omega arith, first (c .before .before) .node-levels)
+    offsets : Offsets (start .args .word) (start .args .row)
+    offsets = upper-offsets (start .args .left) node (start .pre .1 .1 .0) (start .pre .1 .1 .1)
 
-  sum-from-add-sum : sum-from-lts.Need-add-sum (sum-from-claims t) (sum-from-at t) sum-from.Post sum-from-Inv-loop sum-from-μ-loop
-  sum-from-add-sum c =
-      let at-child = c .before .before .before in
-      let start = at-child .before .before .before .before in
-      omega (arith, c .count-node .ensures, parts at-child, branches-fit _ _ _ (levels-below _ _ (start .pre .1 .1 .0)) (start .pre .1 .1 .1))
+    -- the child there, and the others
+    first : {m : Node} → m ≡ childNode node (c .lowest-of .result .at .0) → FirstChild (start .args .left) node m (start .args .row) (c .lowest-of .result .rest)
+    first e = first-child _ _ (start .pre .1 .1 .0) offsets lowest e
 
-  sum-from-loop-again : sum-from-lts.Need-loop-again (sum-from-claims t) (sum-from-at t) sum-from.Post sum-from-Inv-loop sum-from-μ-loop
-  sum-from-loop-again c =
-      let at-child = c .before .before .before in
-      (omega (arith, lowest (at-child .before) .fewer), first at-child .others, omega (arith, c .count-node .ensures, parts at-child))
+    -- the count over the row is less than 2 ^ 64
+    fits : length (branches (start .args .left) (start .args .word) (start .args .row)) < 2 ^ 64
+    fits = branches-fit _ _ _ (levels-below _ _ (start .pre .1 .1 .0)) offsets
 
-  sum-from-loop-again-2 : sum-from-lts.Need-loop-again-2 (sum-from-claims t) (sum-from-at t) sum-from.Post sum-from-Inv-loop sum-from-μ-loop
-  sum-from-loop-again-2 c =
-      let at-child = c .before .before in
-      (omega (arith, lowest (at-child .before) .fewer), first at-child .others, omega (arith, none c, parts at-child))
+  sum-from-count-node-requires : sum-from-lts.Need-count-node-requires (sum-from-claims t) (sum-from-at t) sum-from.Post
+  sum-from-count-node-requires c κs = (omega arith, first (c .before .before .before) (c .child .ensures) .node-levels)
 
-  sum-from-returns : sum-from-lts.Need-returns (sum-from-claims t) (sum-from-at t) sum-from.Post sum-from-Inv-loop sum-from-μ-loop
-  sum-from-returns c =
-      let args = c .before .before .args in
-      omega (arith, rw (c .loop-test .left) at (c .before .loop .inv .2), ap length (branches-none (args .left) (args .n .word)))
+  -- the count over the row is that child's and the others': a child that is not made has none below it
+  parts : (c : sum-from-lts.Joined2 (sum-from-claims t) (sum-from-at t) sum-from.Post) →
+      let args = start (c .before .before) .args in
+      c .if2 .own + length (branches (args .left) (args .word) (c .before .before .lowest-of .result .rest)) ≡ length (branches (args .left) (args .word) (args .row))
+  parts c =
+      let low = c .before .before in
+      let begin = start low in
+      ⊎-elim
+      (λ (test, made, counted, e). omega (arith, e, counted .ensures, simp length-append at (ap length (first low (made .ensures) .parts))))
+      (λ (test, e).
+      let none = sym (c .before .is-childless-at .ensures) ∙ not-false _ (test .left) in
+      omega (arith, e, ap length (childless-branches (begin .args .left) (node low) (begin .pre .1 .1 .0) (begin .pre .1 .1 .1) (omega arith) (low .lowest-of .ensures) none (begin .pre .1 .0))))
+      (c .if2 .came)
+
+  sum-from-sum-from-requires : sum-from-lts.Need-sum-from-requires (sum-from-claims t) (sum-from-at t) sum-from.Post
+  sum-from-sum-from-requires c κs =
+      let low = c .before .before in
+      let begin = start low in
+      (omega (arith, fewer low), (begin .pre .1 .0, (begin .pre .1 .1 .0, upper-again (begin .pre .1 .1 .1) (omega arith) (low .lowest-of .ensures))))
 
 pub +count-node+sum-from-spec : {M : Type 1} → statement M
 +count-node+sum-from-spec = close μ-count-node μ-sum-from (λ t. count-node-lts.spec (count-node-claims t) (count-node-at t) count-node.Post
@@ -158,20 +168,18 @@ pub +count-node+sum-from-spec : {M : Type 1} → statement M
     (λ c κs. tt)
     (count-node-returns-3 t)
     (λ c κs. tt)
+    (λ c κs. tt)
+    (count-node-returns-4 t)
+    (λ c κs. tt)
     (λ c. omega arith)
     (count-node-sum-from-requires t)
-    (count-node-returns-4 t))
+    (count-node-returns-5 t))
     λ t. sum-from-lts.spec (sum-from-claims t) (sum-from-at t) sum-from.Post
-    sum-from-Inv-loop
-    sum-from-μ-loop
-    (sum-from-loop-holds t)
+    (sum-from-returns t)
     (λ c κs. omega arith)
     (λ c κs. tt)
     (λ c κs. tt)
     (sum-from-count-node-requires t)
-    (sum-from-add-sum t)
-    (λ c. lowest t (c .before .before .before .before) .fewer)
-    (sum-from-loop-again t)
-    (λ c. lowest t (c .before .before .before) .fewer)
-    (sum-from-loop-again-2 t)
-    (sum-from-returns t)
+    (sum-from-sum-from-requires t)
+    (λ c. let join = c .before .before in omega (arith, c .before .sum-from .ensures, parts t join, fits t (join .before .before)))
+    (λ c. omega (arith, c .before .sum-from .ensures, parts t (c .before .before)))

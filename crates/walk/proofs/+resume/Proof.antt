@@ -1,6 +1,6 @@
 -- The proof of `resume`, which calls itself: the levels below a node are the measure. Assumes nothing.
 use Prim.Native.Nat.{ℕ, _≤_, _<_}
-use mathlib.Core.Path.{_≡_, sym, ap, subst, _∙_}
+use mathlib.Core.Path.{_≡_, sym, ap, _∙_}
 use native.Mathlib.Omega.{arith}
 use borrow.Author.Needs.{needs}
 use borrow.Fn.Kinds.{In}
@@ -8,9 +8,9 @@ use borrow.Fn.PlainCycle.{Measures, is, falls, and}
 use Rattle.words.specs.Positions.{above}
 use Rattle.words.specs.Elements.{multiplicity}
 use Rattle.tables.specs.Nodes.{firstRow}
-use Rattle.tables.specs.Branches.{Offsets}
 use Rattle.walk.proofs.Resuming.{on-from-own, Below, next-child}
 use Rattle.walk.proofs.Cut.{later-parts, later-cut, later-kept, kept-own}
+use Rattle.tables.proofs.NewGaps.{upper-above}
 use Rattle.walk.proofs.Lending.{put-stops, put-follows}
 use Rattle.walk.proofs.resume.Reads as resume
 use Rattle.walk.proofs.resume.Kinds as resume-kinds
@@ -83,7 +83,7 @@ module _ (t : ℕ) where
   emit-from-requires : resume-lts.Need-emit-from-requires claims at resume.Post
   emit-from-requires c κs =
       let b = found (c .before .before .before .before .before .before .before .before .before .before .before .before) in
-      (b .node-levels, (subst (Offsets _) (sym (after (c .before))) (b .offsets), omega (arith, c .before .before .before .before .before .if2 .left)))
+      (b .node-levels, (upper-above _ (omega (arith, c .before .before .first-row .ensures)) (after (c .before)), omega (arith, c .before .before .before .before .before .if2 .left)))
 
   -- no level below the node: its word
   returns : resume-lts.Need-returns claims at resume.Post

@@ -4,6 +4,7 @@ use borrow.Author.Needs.{needs}
 use borrow.Author.Tests.{lt-ltb, le-ltb}
 use Rattle.words.specs.Tree.{leaves}
 use Rattle.tables.proofs.Branches.{Row, row-branches}
+use Rattle.tables.proofs.NewGaps.{upper-equal}
 use Rattle.walk.proofs.Lending.{put-nowhere}
 use Rattle.walk.proofs.first_leaf.Statement.{statement}
 use Rattle.walk.proofs.first_leaf.Tie as tie
@@ -18,7 +19,7 @@ row : (c : tie.After-first-row) → let start = c .before .before in Row (start 
 row c = row-branches _ _ (c .before .if1 .left) (c .before .before .pre) (c .first-row .ensures)
 
 emit-from-requires : tie.Need-emit-from-requires
-emit-from-requires c κs = (row (c .before) .node-levels, (row (c .before) .offsets, omega arith))
+emit-from-requires c κs = (row (c .before) .node-levels, (upper-equal (omega arith) (c .before .first-row .ensures), omega arith))
 
 returns-2 : tie.Need-returns-2
 returns-2 c =

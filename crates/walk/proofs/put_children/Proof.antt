@@ -2,7 +2,7 @@
 use native.Mathlib.Omega.{arith}
 use borrow.Author.Needs.{needs}
 use Rattle.tables.proofs.Levels.{conductor-within}
-use Rattle.walk.proofs.NewGaps.{node-gaps}
+use Rattle.tables.proofs.NewGaps.{node-gaps}
 use Rattle.walk.proofs.put_children.Statement.{statement}
 use Rattle.walk.proofs.put_children.Tie as tie
 

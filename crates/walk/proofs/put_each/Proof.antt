@@ -11,9 +11,9 @@ use Rattle.words.specs.Tree.{leaves}
 use Rattle.words.proofs.StandingBits.{positions-le}
 use Rattle.tables.proofs.Branches.{TakenOff, taken-off, lowest-in, others-in}
 use Rattle.walk.specs.Lending.{upTo, putAll}
-use Rattle.walk.specs.NewGaps.{gapBranches, GapsFit}
+use Rattle.tables.specs.NewGaps.{gapBranches, GapsFit}
 use Rattle.walk.proofs.Lending.{put-room}
-use Rattle.walk.proofs.NewGaps.{gap-branches-none, gap-branches-first, gap-word}
+use Rattle.tables.proofs.NewGaps.{gap-branches-none, gap-branches-first, gap-word}
 use Rattle.walk.proofs.put_each.Statement.{statement}
 use Rattle.walk.proofs.put_each.Tie as tie
 
