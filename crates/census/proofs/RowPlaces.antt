@@ -1,89 +1,128 @@
--- The places of the words two levels below a word whose conductor is above its multiplicity, from rows 0 and 1 of its table: all have its
--- multiplicity, and row 0 of each child tells their conductors. Assumes nothing.
-use Prim.Native.Nat.{ℕ, _+_, _*_, _≤_, _<_}
-use mathlib.Core.Path.{_≡_, ap, ap₂, _∙_, subst}
-use mathlib.Core.List.{[], map, map-map, List·Memᴰ}
+-- The words below a word, counted up child by child, and the places of those two levels below it, by its rows moved up to the conductor: these words
+-- have its multiplicity, and the bits that tell the generators of a child tell the conductors of the words below the child. Assumes nothing.
+use Prim.Native.Nat.{ℕ, suc, _+_, _*_, _-_, _^_, _<_}
+use mathlib.Core.Path.{_≡_, sym, ap, _∙_, subst}
+use mathlib.Core.List.{List, map, map-map, List·Memᴰ, List·Memᴰ·eq-of-singleton, Memᴰ·map}
 use native.Mathlib.Omega.{arith}
-use lib.Bits.{bitAnd}
+use native.Mathlib.Decide.{decLt}
+use lib.ListN.{length}
+use lib.Pow.{pow-lt}
 use Rattle.words.specs.Words.{conductor, childWord}
 use Rattle.words.specs.Positions.{positions}
-use Rattle.words.specs.Elements.{multiplicity}
+use Rattle.words.specs.Elements.{multiplicity, rightGenerators}
 use Rattle.words.specs.Tree.{leaves}
-use Rattle.words.proofs.Lists.{joined-cong, map-joined, map-same}
-use Rattle.words.proofs.Elements.{conductor-pos, multiplicity-pos, multiplicity-le-genus}
-use Rattle.tables.specs.Nodes.{nodeOf, firstRow, secondRow, rowOfChild}
-use Rattle.tables.specs.Levels.{Levels, NodeWithLevels}
-use Rattle.tables.specs.declared.Node.{Node}
-use Rattle.tables.proofs.Levels.{node-conductor, conductor-within}
-use Rattle.tables.proofs.Branches.{TakenOff, joined-lowest, joined-none}
-use Rattle.tables.proofs.RowsBelow.{childRow, child-there, child-levels-there, grandchild-there, leaf-there, multiplicity-there, leaves-by-rows}
-use Rattle.census.proofs.Tallies.{InParts}
+use Rattle.words.proofs.Lists.{joined-mem, joined-each, map-same}
+use Rattle.words.proofs.Elements.{conductor-pos, multiplicity-below}
+use Rattle.words.proofs.Tree.{multiplicity-stays}
+use Rattle.tables.specs.Levels.{Levels}
+use Rattle.tables.specs.Nodes.{lowestOffset}
+use Rattle.tables.specs.NewGaps.{gapBranches, movedRowOfChild, TwoRows, Upper}
+use Rattle.tables.proofs.Branches.{child-of, child-levels, leaf-below}
+use Rattle.tables.proofs.NewGaps.{upper-all, upper-lowest, upper-again, gap-branches-none, gap-branches-first}
+use Rattle.tables.proofs.MovedRows.{moved-offset, one-level-below}
+use Rattle.census.specs.Private.{censusPlace, tallied, ArePlaces, RoomFor}
+use Rattle.census.proofs.Tallies.{InParts, Tallying, tally-begins, room-first, tally-again, tally-ends}
 use Rattle.census.proofs.WordPlaces.{child-place, leaf-place}
-use Rattle.census.specs.Private.{censusPlace, grandchildPlaces, RowOfPlaces}
 
--- the places below the child at the lowest offset come first
-pub places-first : (first row both m : ℕ) {bits at rest : ℕ} → TakenOff bits at rest
-    → InParts (map (λ j. first + at + j) (positions (rowOfChild row both m at))) (grandchildPlaces first row both m rest) (grandchildPlaces first row both m bits)
-unfolding grandchildPlaces
-places-first first row both m low = record { split = joined-lowest low _ }
+-- ---- child by child
 
-pub places-none : (first row both m : ℕ) → grandchildPlaces first row both m 0 ≡ []
-unfolding grandchildPlaces
-places-none first row both m = joined-none _
+-- a loop counts up the words r + 1 levels below w: those below the children whose new gaps are the bits of rest are left, and these bits are
+-- the generators from one of them on
+pub record TallyingGaps (r w generators : ℕ) (o₀ : List ℕ) (rest : ℕ) (o : List ℕ) : Type 0 where
+  pub upper : Upper generators rest
+  pub words : Tallying censusPlace (leaves (suc r) w) (gapBranches r w rest) o₀ o
 
-module _ (w : ℕ) (at : Levels 2 w) (later : multiplicity w < conductor w) where
-  module _ (d : ℕ) (i : List·Memᴰ d (positions (firstRow (nodeOf w)))) where
-    -- the words below the child at an offset have their places in a row
-    place-below : (j : ℕ) → List·Memᴰ j (positions (childRow w at later d))
-        → censusPlace (childWord (childWord w (conductor w + d)) (conductor (childWord w (conductor w + d)) + j)) ≡ 65 * multiplicity w + conductor w + 2 + d + j
-    place-below j k =
-        omega (arith, child-place _ _ (grandchild-there w at later d i j k), multiplicity-there w at later d i j k, child-there w at later d i .new-conductor)
+-- at first all are left
+pub gaps-begin : {r w generators : ℕ} {o : List ℕ} → generators < 2 ^ 64 → leaves (suc r) w ≡ gapBranches r w generators → RoomFor (length (leaves (suc r) w)) o
+    → TallyingGaps r w generators o generators o
+gaps-begin fits all room = record { upper = upper-all fits; words = tally-begins censusPlace all room }
 
-    -- which are among the 2,210
-    row-of-places : RowOfPlaces (65 * multiplicity w + conductor w + 2 + d) (childRow w at later d)
-    row-of-places j k =
-        subst (λ (p : ℕ). p < 2210) (place-below j k)
-        (leaf-place 1 (childWord w (conductor w + d)) (child-levels-there w at later d i) (leaf-there w at later d i j k))
+module _ {r w generators rest : ℕ} {o₀ o : List ℕ} (at : TallyingGaps r w generators o₀ rest o) where
+  -- i is the lowest bit of those that are left
+  module _ (some : 0 < rest) {i others : ℕ} (low : (i ≡ lowestOffset rest) × (others ≡ rest - 2 ^ lowestOffset rest)) where
+    -- the words below the child there come first
+    parts : InParts (leaves r (childWord w (suc i))) (gapBranches r w others) (gapBranches r w rest)
+    parts = record { split = gap-branches-first w (upper-lowest (at .upper) some low) r }
 
-  -- so that the words two levels below w have these places
-  grandchild-places : map censusPlace (leaves 2 w)
-      ≡ grandchildPlaces (65 * multiplicity w + conductor w + 2) (firstRow (nodeOf w)) (bitAnd (firstRow (nodeOf w)) (secondRow (nodeOf w))) (multiplicity w) (firstRow (nodeOf w))
-  unfolding grandchildPlaces
-  grandchild-places =
-      ap (map censusPlace) (leaves-by-rows w at later)
-      ∙ map-joined censusPlace _ (positions (firstRow (nodeOf w)))
-      ∙ joined-cong _ _ (positions (firstRow (nodeOf w))) (λ d i.
-      map-map censusPlace _ (positions (childRow w at later d)) ∙ map-same _ _ (positions (childRow w at later d)) (place-below d i))
+    -- there is room for them
+    pub gap-room : RoomFor (length (leaves r (childWord w (suc i)))) o
+    gap-room = room-first (at .words) parts
 
--- what m, row 0 and what rows 0 and 1 have in common, as they are read off a node, tell of the words two levels below it: their places; that m
--- and the conductor are low; and that an offset of the row is below 63 and the places below the child there are among the 2,210
-pub record RowsTell (n : Node) (m row both : ℕ) : Type 0 where
-  pub places : map censusPlace (leaves 2 (n .word)) ≡ grandchildPlaces (65 * m + n .conductor + 2) row both m row
-  pub low : (1 ≤ m) × (m ≤ 33) × (n .conductor ≤ 64)
-  pub offsets : (d : ℕ) → List·Memᴰ d (positions row) → (d < 63) × RowOfPlaces (65 * m + n .conductor + 2 + d) (rowOfChild row both m d)
+    -- after them the others are left
+    pub gaps-again : {p : List ℕ} → p ≡ tallied (map censusPlace (leaves r (childWord w (suc i)))) o → TallyingGaps r w generators o₀ others p
+    gaps-again done = record { upper = upper-again (at .upper) some low; words = tally-again (at .words) parts done }
 
-pub rows-tell : (n : Node) {m row both : ℕ} → NodeWithLevels 2 n → multiplicity (n .word) < conductor (n .word)
-    → m ≡ multiplicity (n .word) → row ≡ firstRow n → both ≡ bitAnd row (secondRow n) → RowsTell n m row both
-rows-tell n {m} {row} {both} at later m-is row-is both-is = record {
-  places = rw (both-of, row-of, m-is, conductor-is) (grandchild-places w (at .levels) later);
-  low =
-      let o = at .levels in
-      omega (arith, m-is, conductor-is, multiplicity-pos w (o .fits), multiplicity-le-genus w (o .fits), conductor-within 2 n at, o .few);
-  offsets = λ d i.
-      let k : List·Memᴰ d (positions (firstRow (nodeOf w))) = subst (λ (r : ℕ). List·Memᴰ d (positions r)) row-of i in (
-        omega (arith, child-there w (at .levels) later d k .low, conductor-pos w),
-        rw (both-of, row-of, m-is, conductor-is) (row-of-places w (at .levels) later d k),
-      );
-}
-  where
-    w : ℕ
-    w = n .word
+  -- at last none is left
+  pub gaps-end : rest ≡ 0 → o ≡ tallied (map censusPlace (leaves (suc r) w)) o₀
+  gaps-end none = tally-ends (at .words) (ap (gapBranches r w) none ∙ gap-branches-none r w)
 
-    conductor-is : n .conductor ≡ conductor (n .word)
-    conductor-is = node-conductor 2 n at
+-- ---- the words two levels below
 
-    row-of : row ≡ firstRow (nodeOf (n .word))
-    row-of = row-is ∙ ap firstRow (at .node)
+-- the multiplicity may be given as any number that is equal to it
+pub with-multiplicity : {w m k generators seeds : ℕ} → TwoRows w m generators seeds → k ≡ multiplicity w → TwoRows w k generators seeds
+with-multiplicity {w} {generators} {seeds} rows e = subst (λ (k : ℕ). TwoRows w k generators seeds) (rows .least ∙ sym e) rows
 
-    both-of : both ≡ bitAnd (firstRow (nodeOf (n .word))) (secondRow (nodeOf (n .word)))
-    both-of = both-is ∙ ap₂ bitAnd row-of (ap secondRow (at .node))
+-- equal children of a word have their new gaps at the same bit
+same-gap : (w x y : ℕ) → childWord w x ≡ childWord w y → x - 1 ≡ y - 1
+unfolding childWord
+same-gap w x y e = elim (decLt (x - 1) (y - 1)) [
+  | yes h ↦ absurd (omega (arith, e, pow-lt h))
+  | no h ↦ elim (decLt (y - 1) (x - 1)) [ yes l ↦ absurd (omega (arith, e, pow-lt l)) | no l ↦ omega arith ]
+]
+
+-- the rows of w, and the bit of a generator
+module _ {w m generators seeds : ℕ} (rows : TwoRows w m generators seeds) {i : ℕ} (g : List·Memᴰ i (positions generators)) where
+  -- the child without it, and the bits that tell the child's generators
+  abbrev v : ℕ
+  v = childWord w (suc i)
+
+  abbrev bits : ℕ
+  bits = movedRowOfChild generators seeds m i
+
+  -- the generator is one more than its bit
+  generator-there : List·Memᴰ (suc i) (rightGenerators w)
+  generator-there =
+      let (d, x, e) = moved-offset 1 w (rows .levels) (subst (λ (n : ℕ). List·Memᴰ i (positions n)) (rows .first) g) in
+      let gap : conductor w + d ≡ suc i = omega (arith, conductor-pos w) in
+      subst (λ (y : ℕ). List·Memᴰ y (rightGenerators w)) gap x
+
+  -- the child has a level below it
+  levels-there : Levels 1 v
+  levels-there = child-levels 1 w (rows .levels) generator-there
+
+  -- each of its bits makes one word there
+  words-below : leaves 1 v ≡ map (λ j. childWord v (suc j)) (positions bits)
+  unfolding gapBranches leaves
+  words-below = one-level-below rows g ∙ joined-each (λ j. childWord v (suc j)) (positions bits)
+
+  module _ {j : ℕ} (k : List·Memᴰ j (positions bits)) where
+    abbrev u : ℕ
+    u = childWord v (suc j)
+
+    word-there : List·Memᴰ u (leaves 1 v)
+    word-there = subst (List·Memᴰ u) (sym words-below) (Memᴰ·map (λ j. childWord v (suc j)) k)
+
+    -- the word has the multiplicity of w
+    multiplicity-there : multiplicity u ≡ m
+    multiplicity-there =
+        let (l, split, fits) = leaf-below 1 w (rows .levels) generator-there word-there in
+        let high = child-of 1 w (rows .levels) generator-there .high in
+        let low = multiplicity-below w (rows .levels .fits) (rows .two) in
+        multiplicity-stays w u (suc i) l (rows .levels .fits) split fits (omega arith) ∙ sym (rows .least)
+
+    -- its conductor is two more than the bit
+    place-there : censusPlace u ≡ 65 * m + 2 + j
+    unfolding leaves
+    place-there =
+        let (x, y, z) = joined-mem (λ x. leaves 0 (childWord v x)) (rightGenerators v) word-there in
+        let same : u ≡ childWord v x = List·Memᴰ·eq-of-singleton z in
+        let child = child-of 0 v levels-there y in
+        omega (arith, ap censusPlace same, child-place v x child, ap multiplicity same, multiplicity-there, same-gap v (suc j) x same, child .high, conductor-pos v)
+
+  -- so the bits tell the places of the words below the child
+  pub child-places : map censusPlace (leaves 1 (childWord w (suc i))) ≡ map (λ j. 65 * m + 2 + j) (positions (movedRowOfChild generators seeds m i))
+  child-places = ap (map censusPlace) words-below ∙ map-map censusPlace _ (positions bits) ∙ map-same _ _ (positions bits) (λ j k. place-there k)
+
+  -- these are among the 2,210
+  pub are-places : ArePlaces (65 * m + 2) (movedRowOfChild generators seeds m i)
+  are-places j k = subst (λ (p : ℕ). p < 2210) (place-there k) (leaf-place 1 v levels-there (word-there k))

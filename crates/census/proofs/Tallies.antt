@@ -1,12 +1,13 @@
--- Numbers counted up at places of a list: what one more changes, and what all of a list of places change. Assumes nothing.
+-- Numbers counted up at places of a list: what one more changes, what all of a list of places change, and where a loop stands that counts them up.
+-- Assumes nothing.
 use Prim.Native.Nat.{ℕ, suc, _+_, _≤_, _<_}
-use mathlib.Core.Path.{_≡_, refl, sym, ap, _∙_}
-use mathlib.Core.List.{List, [], _∷_, _++_}
+use mathlib.Core.Path.{_≡_, refl, sym, ap, _∙_, subst}
+use mathlib.Core.List.{List, [], _∷_, _++_, map, map-append}
 use native.Mathlib.Omega.{arith}
 use native.Mathlib.Nat.{add-zero}
 use native.Mathlib.Decide.{ℕ-discrete, decLt}
 use lib.Dec.{eqb}
-use lib.ListN.{length, getD, length-set, length-append, length-replicate, replicate-append-replicate, List·getD-eq-default}
+use lib.ListN.{length, getD, length-set, length-append, length-map, length-replicate, replicate-append-replicate, List·getD-eq-default}
 use lib.Seq.{getD-set-same, getD-set-other}
 use borrow.Author.Tests.{eq-eqb, ne-eqb}
 use Rattle.words.specs.Lists.{keep, keepIf}
@@ -87,20 +88,44 @@ unfolding tallied
 room-after [] o r = room-for-fewer (omega arith) r
 room-after (p ∷ l) o r = room-after l (oneMore p o) (room-after-one p o (room-for-fewer (omega arith) r))
 
--- places in two parts, to be counted one part after the other
+-- ---- a loop that counts up
+
+-- a list in two parts
 pub record InParts (k l whole : List ℕ) : Type 0 where
   pub split : whole ≡ k ++ l
 
-module _ {k l whole : List ℕ} (o : List ℕ) (parts : InParts k l whole) where
-  abbrev sizes : length whole ≡ length k + length l
-  sizes = ap length (parts .split) ∙ length-append k l
+-- a loop adds one at the place f x of each x of a list: o₀ has the numbers before the loop, o has those now, and the x of rest are left
+pub record Tallying (f : ℕ → ℕ) (all rest o₀ o : List ℕ) : Type 0 where
+  pub size : length o ≡ length o₀
+  pub room : RoomFor (length rest) o
+  pub total : tallied (map f rest) o ≡ tallied (map f all) o₀
 
-  pub tallied-parts : tallied whole o ≡ tallied l (tallied k o)
-  tallied-parts = ap (λ (t : List ℕ). tallied t o) (parts .split) ∙ tallied-append k l o
+-- at first all are left
+pub tally-begins : (f : ℕ → ℕ) {all rest o : List ℕ} → all ≡ rest → RoomFor (length all) o → Tallying f all rest o o
+tally-begins f {all} {rest} {o} same room = subst (λ (l : List ℕ). Tallying f all l o o) same record { size = refl; room = room; total = refl }
 
-  -- where there is room for all, there is room for the first, and after it for the second
-  pub room-front : RoomFor (length whole) o → RoomFor (length k) o
-  room-front = room-for-fewer (omega (arith, sizes))
+module _ {f : ℕ → ℕ} {all rest o₀ o : List ℕ} (at : Tallying f all rest o₀ o) where
+  -- what is left has two parts
+  module _ {k l : List ℕ} (parts : InParts k l rest) where
+    -- their lengths are together that of the whole
+    abbrev sizes : length rest ≡ length k + length l
+    sizes = ap length (parts .split) ∙ length-append k l
 
-  pub room-rest : RoomFor (length whole) o → RoomFor (length l) (tallied k o)
-  room-rest r = room-after k o (room-for-fewer (omega (arith, sizes)) r)
+    -- there is room for the first
+    pub room-first : RoomFor (length k) o
+    room-first = room-for-fewer (omega (arith, sizes)) (at .room)
+
+    -- after it the second is left
+    pub tally-again : {p : List ℕ} → p ≡ tallied (map f k) o → Tallying f all l o₀ p
+    tally-again {p} done = record {
+      size = ap length done ∙ tallied-length (map f k) o ∙ at .size;
+      room = subst (RoomFor (length l)) (sym done) (room-after (map f k) o (room-for-fewer (omega (arith, sizes, length-map k f)) (at .room)));
+      total =
+          ap (tallied (map f l)) done ∙ sym (tallied-append (map f k) (map f l) o)
+          ∙ ap (λ (t : List ℕ). tallied t o) (sym (ap (map f) (parts .split) ∙ map-append f k l)) ∙ at .total;
+    }
+
+  -- at last none is left
+  pub tally-ends : rest ≡ [] → o ≡ tallied (map f all) o₀
+  unfolding tallied
+  tally-ends none = rw none at (at .total)

@@ -1,13 +1,12 @@
 -- Numbers that are counted up at places of a list, of which the private functions of the census speak. Assumes nothing: these are
 -- definitions.
 use Prim.Native.Nat.{ℕ, _+_, _*_, _%_, _^_, _≤_, _<_}
-use mathlib.Core.List.{List, [], _∷_, map, List·Memᴰ}
+use mathlib.Core.List.{List, [], _∷_, List·Memᴰ}
 use lib.ListN.{length, getD, set, replicate}
-use Rattle.words.specs.Lists.{run, joined, sumOver}
+use Rattle.words.specs.Lists.{run, sumOver}
 use Rattle.words.specs.Words.{reportedConductor}
 use Rattle.words.specs.Elements.{multiplicity}
 use Rattle.words.specs.Positions.{positions}
-use Rattle.tables.specs.Nodes.{rowOfChild}
 
 -- the place of the word w
 unfoldable pub censusPlace : ℕ → ℕ
@@ -26,13 +25,9 @@ unfoldable pub tallied : List ℕ → List ℕ → List ℕ
 tallied [] o = o
 tallied (p ∷ l) o = tallied l (oneMore p o)
 
--- `first`, an offset d that is a bit of bits and an offset in the row of the child at d, added, for each two such offsets
-unfoldable pub grandchildPlaces : ℕ → ℕ → ℕ → ℕ → ℕ → List ℕ
-grandchildPlaces first row both m bits = joined (λ d. map (λ j. first + d + j) (positions (rowOfChild row both m d))) (positions bits)
-
--- `first` and each offset that is a bit of row make one of the 2,210 places
-abbrev pub RowOfPlaces : ℕ → ℕ → Type 0
-RowOfPlaces first row = (d : ℕ) → List·Memᴰ d (positions row) → first + d < 2210
+-- `first` and each position that is a bit of a number make one of the 2,210 places
+abbrev pub ArePlaces : ℕ → ℕ → Type 0
+ArePlaces first bits = (i : ℕ) → List·Memᴰ i (positions bits) → first + i < 2210
 
 -- o has the 2,210 places of a census, and at each there is room for n more in 64 bits
 pub record RoomFor (n : ℕ) (o : List ℕ) : Type 0 where

@@ -1,23 +1,23 @@
 // The census of a genus: how many semigroups it has of each multiplicity and reported conductor, at the places of a lent list, and the sum of
-// these conductors. It goes down the tree once, to the nodes two levels above the genus: their rows 0 and 1 tell the places of the words
-// below them. Only where the conductor is the multiplicity, which holds for one node of each genus, are the nodes below made.
+// these conductors. It goes down the tree once, to the nodes three levels above the genus: their rows 0, 1 and 2 tell the places of the words
+// below them. Only where k, the number of elements below the conductor, is 1 or 2, which holds for few nodes of each genus, are the nodes below
+// made.
 ghost use Prim.Native.Nat.{_+_, _^_, _≤_, _<_};
 ghost use mathlib.Core.Path.{_≡_};
 ghost use mathlib.Core.List.{map};
 ghost use lib.ListN.{length};
 ghost use Rattle.words.specs.Lists.{fronted};
 ghost use Rattle.words.specs.Words.{conductor};
-ghost use Rattle.words.specs.Elements.{multiplicity};
+ghost use Rattle.words.specs.Elements.{elementAt, multiplicity};
 ghost use Rattle.words.specs.Positions.{positions};
 ghost use Rattle.words.specs.Answers.{listed};
 ghost use Rattle.words.specs.Tree.{leaves};
-ghost use Rattle.tables.specs.Nodes.{rowOfChild};
 ghost use Rattle.tables.specs.Levels.{NodeWithLevels};
+ghost use Rattle.tables.specs.NewGaps.{TwoRows};
 ghost use Rattle.census.specs.Census.{censusOf};
-ghost use Rattle.census.specs.Private.{censusPlace, blank, oneMore, tallied, RowOfPlaces, RoomFor, conductorsIn};
+ghost use Rattle.census.specs.Private.{censusPlace, blank, oneMore, tallied, ArePlaces, RoomFor, conductorsIn};
 use tables::Node;
 use words::NumberAnswer;
-use words::Offset;
 use words::Refusal;
 
 // Sets the 2,210 places to 0.
@@ -49,49 +49,75 @@ fn add_one(place: u64, out: &mut [u64])
     out[p] = out[p] + 1;
 }
 
-// Adds one at the place `first` and an offset, for each of the offsets that are the bits of a row.
-fn tally_row(first: u64, row: u64, out: &mut [u64])
-    requires { ⌜ RowOfPlaces first row ⌝ }
-    requires { ⌜ RoomFor (length (positions row)) (now out) ⌝ }
-    ensures { λ r. ⌜ now (out .exit) ≡ tallied (map (λ d. first + d) (positions row)) (now (out .entry)) ⌝ }
+// Adds one at the place `first` and a position, for each of the positions that are the bits of a number.
+fn tally_bits(first: u64, bits: u64, out: &mut [u64])
+    requires { ⌜ ArePlaces first bits ⌝ }
+    requires { ⌜ RoomFor (length (positions bits)) (now out) ⌝ }
+    ensures { λ r. ⌜ now (out .exit) ≡ tallied (map (λ i. first + i) (positions bits)) (now (out .entry)) ⌝ }
 {
-    let mut bits = row;
-    while bits != 0 {
-        let d = tables::lowest_of(bits);
-        let at = d.at;
+    let mut rest = bits;
+    while rest != 0 {
+        let low = tables::lowest_of(rest);
+        let at = low.at;
         add_one(first + at.0, out);
-        bits = d.rest;
+        rest = low.rest;
     }
 }
 
-// Row 0 of the child at an offset, from row 0 of its parent and the offsets that rows 0 and 1 have in common: the later generators, and at
-// m - 1, with m the multiplicity, one more where the offset is among these.
-fn child_row(row: u64, both: u64, m: u64, at: Offset) -> u64
-    requires { ⌜ (at .0 < 63) × (1 ≤ m) × (m ≤ 64) ⌝ }
-    ensures { λ r. ⌜ r ≡ rowOfChild row both m (at .0) ⌝ }
+// Counts the words two levels below a word that has these generators not below its conductor, of which `seeds` tells the order-one seeds: they
+// have its multiplicity, and their conductors are two more than the bits of their last gaps.
+fn tally_by_rows(word: u64, generators: u64, seeds: u64, out: &mut [u64])
+    requires { ⌜ TwoRows word (multiplicity word) generators seeds ⌝ }
+    requires { ⌜ RoomFor (length (leaves 2 word)) (now out) ⌝ }
+    ensures { λ r. ⌜ now (out .exit) ≡ tallied (map censusPlace (leaves 2 word)) (now (out .entry)) ⌝ }
 {
-    let passed = at.0 + 1;
-    row >> passed | (both >> at.0 & 1) << (m - 1)
+    let m = words::multiplicity_of(word);
+    let first = 65 * m + 2;
+    let mut rest = generators;
+    while rest != 0 {
+        let low = tables::lowest_of(rest);
+        let e = rest - low.rest;
+        tally_bits(first, low.rest | (seeds & e) << m, out);
+        rest = low.rest;
+    }
 }
 
-// Counts the words two levels below a node whose conductor is above its multiplicity, from rows 0 and 1 alone: they have the multiplicity of
-// the node.
+// Counts the words two levels below a node whose conductor is above its multiplicity, from rows 0 and 1 alone.
 fn tally_grandchildren(n: Node, out: &mut [u64])
     requires { ⌜ NodeWithLevels 2 n ⌝ }
     requires { ⌜ multiplicity (n .word) < conductor (n .word) ⌝ }
     requires { ⌜ RoomFor (length (leaves 2 (n .word))) (now out) ⌝ }
     ensures { λ r. ⌜ now (out .exit) ≡ tallied (map censusPlace (leaves 2 (n .word))) (now (out .entry)) ⌝ }
 {
-    let m = words::multiplicity_of(n.word);
-    let row = n.first_row();
-    let both = row & n.second_row();
-    let first = 65 * m + n.conductor + 2;
-    let mut bits = row;
-    while bits != 0 {
-        let d = tables::lowest_of(bits);
-        let at = d.at;
-        tally_row(first + at.0, child_row(row, both, m, at), out);
-        bits = d.rest;
+    let up = n.conductor - 1;
+    tally_by_rows(n.word, n.first_row() << up, n.second_row() << up, out);
+}
+
+// Counts the words three levels below a node whose conductor is above its second positive element, from rows 0, 1 and 2 alone: rows 0 and 1 of
+// each child tell the words below it.
+fn tally_great_grandchildren(n: Node, out: &mut [u64])
+    requires { ⌜ NodeWithLevels 3 n ⌝ }
+    requires { ⌜ elementAt (n .word) 2 < conductor (n .word) ⌝ }
+    requires { ⌜ RoomFor (length (leaves 3 (n .word))) (now out) ⌝ }
+    ensures { λ r. ⌜ now (out .exit) ≡ tallied (map censusPlace (leaves 3 (n .word))) (now (out .entry)) ⌝ }
+{
+    let w = n.word;
+    let up = n.conductor - 1;
+    let m = words::multiplicity_of(w);
+    let u = n.second_element() - m;
+    let seeds = n.second_row() << up;
+    let last = n.third_row() << up;
+    let mut rest = n.first_row() << up;
+    while rest != 0 {
+        let low = tables::lowest_of(rest);
+        let e = rest - low.rest;
+        tally_by_rows(
+            w + e,
+            low.rest | (seeds & e) << m,
+            seeds | (last & e) << u,
+            out,
+        );
+        rest = low.rest;
     }
 }
 
@@ -108,6 +134,12 @@ fn tally(n: Node, left: u64, out: &mut [u64])
     if left == 2 {
         if words::multiplicity_of(n.word) < n.conductor {
             tally_grandchildren(n, out);
+            return;
+        }
+    }
+    if left == 3 {
+        if n.second_element() < n.conductor {
+            tally_great_grandchildren(n, out);
             return;
         }
     }
