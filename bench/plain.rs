@@ -1,6 +1,6 @@
 //! The tree of semigroups by seed tables in plain Rust, as one would write it for speed without proofs: children by the bits of the
-//! table's first row, raking by doubling, no call for a child without children, and the last two levels from rows 0 and 1 alone. And a look
-//! at a word that tries every element for its sums.
+//! table's first row, raking by doubling, no child made that has no children, and the last three levels from rows 0, 1 and 2 alone. And a
+//! look at a word that tries every element for its sums.
 #![crate_type = "staticlib"]
 
 #[derive(Clone, Copy)]
@@ -17,18 +17,26 @@ const FIRST: Node = Node {
 };
 
 impl Node {
-    fn first_row(self) -> u64 {
-        self.table & (self.word ^ (self.word + 1))
+    /// The row of the table that begins at an element below the conductor: an entry for it and for each gap up to the next element.
+    fn row(self, element: u32) -> u64 {
+        let later = self.word >> element;
+        (self.table >> element) & (later ^ (later + 1))
     }
 
     fn multiplicity(self) -> u32 {
         self.word.trailing_ones() + 1
     }
 
-    /// What rows 0 and 1 have in common, where the conductor is above the multiplicity.
-    fn seeds(self) -> u64 {
-        let later = self.word >> self.multiplicity();
-        self.first_row() & (self.table >> self.multiplicity()) & (later ^ (later + 1))
+    /// The second positive element.
+    fn second_element(self) -> u32 {
+        let m = self.multiplicity();
+        m + (self.word >> m).trailing_ones() + 1
+    }
+
+    /// Does the child at an offset have children, where `later` has the offsets after it? Row 1 tells it of the last one, where there is a row 1.
+    fn goes_on(self, d: u32, later: u64) -> bool {
+        let m = self.multiplicity();
+        later != 0 || self.conductor <= m || self.row(m) >> d & 1 != 0
     }
 
     fn child(self, d: u32) -> Node {
@@ -50,22 +58,33 @@ impl Node {
     }
 }
 
+fn ones(bits: u64) -> u64 {
+    bits.count_ones() as u64
+}
+
 fn count(n: Node, left: u32) -> u64 {
-    let mut row = n.first_row();
+    let mut row = n.row(0);
     if left == 1 {
-        return row.count_ones() as u64;
+        return ones(row);
     }
-    if left == 2 && n.multiplicity() < n.conductor {
-        let k = row.count_ones() as u64;
-        return (k * k - k) / 2 + n.seeds().count_ones() as u64;
+    let m = n.multiplicity();
+    if left == 2 && m < n.conductor {
+        let k = ones(row);
+        return (k * k - k) / 2 + ones(row & n.row(m));
+    }
+    let a = n.second_element();
+    if left == 3 && a < n.conductor {
+        let k = ones(row);
+        let pairs = (k * k - k) / 2;
+        return (pairs * k - 2 * pairs) / 3 + ones(row & n.row(m)) * (k - 1) + ones(row & n.row(a) & n.table >> (a - m));
     }
     let mut sum = 0;
     while row != 0 {
-        let child = n.child(row.trailing_zeros());
-        if child.first_row() != 0 {
-            sum += count(child, left - 1);
-        }
+        let d = row.trailing_zeros();
         row &= row - 1;
+        if n.goes_on(d, row) {
+            sum += count(n.child(d), left - 1);
+        }
     }
     sum
 }
@@ -98,6 +117,17 @@ impl Sink<'_> {
         }
     }
 
+    /// The words two levels below a word of multiplicity m with these generators not below its conductor, of which these are order-one seeds.
+    fn put_pairs(&mut self, word: u64, m: u32, generators: u64, seeds: u64) {
+        let mut rest = generators;
+        while rest != 0 {
+            let later = rest & (rest - 1);
+            let e = rest ^ later;
+            self.put(word | e, later | (seeds & e) << m);
+            rest = later;
+        }
+    }
+
     fn flush(&mut self) {
         for &word in &self.words[..self.used] {
             self.mixed = self.mixed.wrapping_mul(31).wrapping_add(word);
@@ -109,27 +139,32 @@ impl Sink<'_> {
 
 fn walk(n: Node, left: u32, sink: &mut Sink) {
     let up = n.conductor - 1;
-    let mut row = n.first_row();
+    let mut row = n.row(0);
     if left == 1 {
         return sink.put(n.word, row << up);
     }
-    if left == 2 && n.multiplicity() < n.conductor {
-        let seeds = n.seeds() << up;
+    let m = n.multiplicity();
+    if left == 2 && m < n.conductor {
+        return sink.put_pairs(n.word, m, row << up, n.row(m) << up);
+    }
+    let a = n.second_element();
+    if left == 3 && a < n.conductor {
+        let (seeds, last) = (n.row(m) << up, n.row(a) << up);
         let mut rest = row << up;
         while rest != 0 {
             let later = rest & (rest - 1);
             let e = rest ^ later;
-            sink.put(n.word | e, later | (seeds & e) << n.multiplicity());
+            sink.put_pairs(n.word | e, m, later | (seeds & e) << m, seeds | (last & e) << (a - m));
             rest = later;
         }
         return;
     }
     while row != 0 {
-        let child = n.child(row.trailing_zeros());
-        if child.first_row() != 0 {
-            walk(child, left - 1, sink);
-        }
+        let d = row.trailing_zeros();
         row &= row - 1;
+        if n.goes_on(d, row) {
+            walk(n.child(d), left - 1, sink);
+        }
     }
 }
 

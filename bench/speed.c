@@ -1,8 +1,8 @@
 /* Speed of the atlas as ratios: the count and the whole walk of a genus by batches of 4,096 words, ours against the paper's recursive
-   algorithm in C and against plain Rust, the same work in turn in one run; then the census of a genus, calls on every word of it,
-   the walk of it cut by ancestors, and the walk of a window of it and searches in it, against the walk of it; looks at words of several
-   kinds against looks that try every element; and changes of lists of generators against calls for their words. Each time is the least of
-   several runs. */
+   algorithm in C and against plain Rust, and the count against the revised algorithm in C, the same work in turn in one run; then the census
+   of a genus, calls on every word of it, the walk of it cut by ancestors, and the walk of a window of it and searches in it, against the walk
+   of it; looks at words of several kinds against looks that try every element; and changes of lists of generators against calls for their
+   words. Each time is the least of several runs. */
 #include <inttypes.h>
 #include <stdio.h>
 #include <stdlib.h>
@@ -12,6 +12,7 @@
 
 uint64_t paper_count(unsigned genus);
 uint64_t paper_walk(unsigned genus, uint64_t *words, size_t length, uint64_t *mixed);
+uint64_t revised_count(unsigned genus);
 uint64_t plain_count(unsigned genus);
 uint64_t plain_walk(unsigned genus, uint64_t *words, size_t length, uint64_t *mixed);
 atlas_report plain_look(uint64_t word);
@@ -28,6 +29,11 @@ static uint64_t our_counted(unsigned genus, uint64_t *out, size_t length, uint64
 static uint64_t paper_counted(unsigned genus, uint64_t *out, size_t length, uint64_t *mixed) {
   (void)out, (void)length, *mixed = 0;
   return paper_count(genus);
+}
+
+static uint64_t revised_counted(unsigned genus, uint64_t *out, size_t length, uint64_t *mixed) {
+  (void)out, (void)length, *mixed = 0;
+  return revised_count(genus);
 }
 
 static uint64_t plain_counted(unsigned genus, uint64_t *out, size_t length, uint64_t *mixed) {
@@ -257,36 +263,54 @@ static double slowest_search(unsigned genus) {
   return slowest;
 }
 
-/* The number of semigroups and the times of the same work by the three. */
+/* By what the same work is done: ours, the paper's algorithm and the revised one in C, which has no walk, and plain Rust. */
+enum { OURS, PAPER, REVISED, PLAIN, ALL };
+
+/* The number of semigroups and the times of the same work by each. */
 struct times {
   uint64_t number;
-  double ours, paper, plain;
+  double by[ALL];
 };
 
-/* One row of the table: the same work by the three in turn, with the same results. */
-static struct times row(const char *name, unsigned genus, work *ours, work *paper, work *plain) {
-  work *by[] = {ours, paper, plain};
-  double best[] = {1e9, 1e9, 1e9};
-  uint64_t number[3], mixed[3];
+/* One number of a row of the table, a dash where there is no such work. */
+static void put_number(work *f, double number) {
+  if (f)
+    printf(" %10.2f", number);
+  else
+    printf(" %10s", "-");
+}
+
+/* One row of the table: the same work by each that has such a work in turn, with the same results. */
+static struct times row(const char *name, unsigned genus, work *const works[ALL]) {
+  struct times best = {0, {1e9, 1e9, 1e9, 1e9}};
+  uint64_t first_mixed = 0;
   for (int i = 0; i < RUNS; i++) {
-    for (int k = 0; k < 3; k++) {
-      double taken = time_once(by[k], genus, LENGTH, &number[k], &mixed[k]);
-      if (taken < best[k]) best[k] = taken;
-      if (number[k] != number[0] || mixed[k] != mixed[0]) {
+    for (int k = 0; k < ALL; k++) {
+      if (!works[k]) continue;
+      uint64_t number, mixed;
+      double taken = time_once(works[k], genus, LENGTH, &number, &mixed);
+      if (taken < best.by[k]) best.by[k] = taken;
+      if (k == OURS) best.number = number, first_mixed = mixed;
+      if (number != best.number || mixed != first_mixed) {
         fprintf(stderr, "results differ: %s of genus %u\n", name, genus);
         exit(1);
       }
     }
   }
-  printf("%-7u %-6s %12" PRIu64 " %10.2f %10.2f %10.2f %9.2f %9.2f\n", genus, name, number[0], best[0] * 1e3, best[1] * 1e3, best[2] * 1e3,
-         best[0] / best[1], best[0] / best[2]);
-  return (struct times){number[0], best[0], best[1], best[2]};
+  printf("%-7u %-6s %12" PRIu64, genus, name, best.number);
+  for (int k = OURS; k < ALL; k++) put_number(works[k], best.by[k] * 1e3);
+  for (int k = PAPER; k < ALL; k++) put_number(works[k], best.by[OURS] / best.by[k]);
+  printf("\n");
+  return best;
 }
 
 /* How many times the time a work takes at a larger genus, beside how many times the semigroups there are. */
-static void growth_row(const char *name, struct times from, struct times to) {
-  printf("%s: %.1f times the semigroups, ours %.1f times the time, the paper's %.1f, plain Rust %.1f\n", name,
-         (double)to.number / (double)from.number, to.ours / from.ours, to.paper / from.paper, to.plain / from.plain);
+static void growth_row(const char *name, struct times from, struct times to, work *const works[ALL]) {
+  static const char *const names[ALL] = {"ours", "the paper's", "the revised", "plain Rust"};
+  printf("%s: %.1f times the semigroups", name, (double)to.number / (double)from.number);
+  for (int k = OURS; k < ALL; k++)
+    if (works[k]) printf(", %s %.1f%s", names[k], to.by[k] / from.by[k], k == OURS ? " times the time" : "");
+  printf("\n");
 }
 
 /* The census of a genus as a ratio to the walk, which has so many words. */
@@ -335,14 +359,17 @@ static void look_row(const char *name) {
 
 int main(void) {
   static const unsigned genera[] = {24, 28, 32};
-  printf("%-7s %-6s %12s %10s %10s %10s %9s %9s\n", "genus", "work", "semigroups", "ours ms", "paper ms", "Rust ms", "to paper", "to Rust");
+  static work *const count_by[ALL] = {our_counted, paper_counted, revised_counted, plain_counted};
+  static work *const walk_by[ALL] = {our_walk, paper_walk, NULL, plain_walk};
+  printf("%-7s %-6s %12s %10s %10s %10s %10s %10s %10s %10s\n", "genus", "work", "semigroups", "ours ms", "paper ms", "revised ms", "Rust ms",
+         "to paper", "to revised", "to Rust");
   struct times counts[3], walks[3];
   for (int i = 0; i < 3; i++) {
-    counts[i] = row("count", genera[i], our_counted, paper_counted, plain_counted);
-    walks[i] = row("walk", genera[i], our_walk, paper_walk, plain_walk);
+    counts[i] = row("count", genera[i], count_by);
+    walks[i] = row("walk", genera[i], walk_by);
   }
-  growth_row("count from genus 24 to 32", counts[0], counts[2]);
-  growth_row("walk from genus 24 to 32", walks[0], walks[2]);
+  growth_row("count from genus 24 to 32", counts[0], counts[2], count_by);
+  growth_row("walk from genus 24 to 32", walks[0], walks[2], walk_by);
   uint64_t total, mixed;
   double walk = time_of(our_walk, 24, LENGTH, &total, &mixed);
   census_row(24, walk, total);
