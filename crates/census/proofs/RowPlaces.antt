@@ -2,24 +2,21 @@
 -- have its multiplicity, and the bits that tell the generators of a child tell the conductors of the words below the child. Assumes nothing.
 use Prim.Native.Nat.{ℕ, suc, _+_, _*_, _-_, _^_, _<_}
 use mathlib.Core.Path.{_≡_, sym, ap, _∙_, subst}
-use mathlib.Core.List.{List, map, map-map, List·Memᴰ, List·Memᴰ·eq-of-singleton, Memᴰ·map}
+use mathlib.Core.List.{List, map, map-map, List·Memᴰ, Memᴰ·map}
 use native.Mathlib.Omega.{arith}
-use native.Mathlib.Decide.{decLt}
 use lib.ListN.{length}
-use lib.Pow.{pow-lt}
-use Rattle.words.specs.Words.{conductor, childWord}
+use Rattle.words.specs.Words.{childWord}
 use Rattle.words.specs.Positions.{positions}
 use Rattle.words.specs.Elements.{multiplicity, rightGenerators}
 use Rattle.words.specs.Tree.{leaves}
-use Rattle.words.proofs.Lists.{joined-mem, joined-each, map-same}
-use Rattle.words.proofs.Elements.{conductor-pos, multiplicity-below}
+use Rattle.words.proofs.Lists.{joined-each, map-same}
+use Rattle.words.proofs.Elements.{multiplicity-below}
 use Rattle.words.proofs.Tree.{multiplicity-stays}
-use Rattle.tables.specs.Levels.{Levels}
 use Rattle.tables.specs.Nodes.{lowestOffset}
 use Rattle.tables.specs.NewGaps.{gapBranches, movedRowOfChild, TwoRows, Upper}
-use Rattle.tables.proofs.Branches.{child-of, child-levels, leaf-below}
+use Rattle.tables.proofs.Branches.{child-of, leaf-below}
 use Rattle.tables.proofs.NewGaps.{upper-all, upper-lowest, upper-again, gap-branches-none, gap-branches-first}
-use Rattle.tables.proofs.MovedRows.{moved-offset, one-level-below}
+use Rattle.tables.proofs.MovedRows.{bit-generator, child-told, one-level-below}
 use Rattle.census.specs.Private.{censusPlace, tallied, ArePlaces, RoomFor}
 use Rattle.census.proofs.Tallies.{InParts, Tallying, tally-begins, room-first, tally-again, tally-ends}
 use Rattle.census.proofs.WordPlaces.{child-place, leaf-place}
@@ -62,14 +59,6 @@ module _ {r w generators rest : ℕ} {o₀ o : List ℕ} (at : TallyingGaps r w 
 pub with-multiplicity : {w m k generators seeds : ℕ} → TwoRows w m generators seeds → k ≡ multiplicity w → TwoRows w k generators seeds
 with-multiplicity {w} {generators} {seeds} rows e = subst (λ (k : ℕ). TwoRows w k generators seeds) (rows .least ∙ sym e) rows
 
--- equal children of a word have their new gaps at the same bit
-same-gap : (w x y : ℕ) → childWord w x ≡ childWord w y → x - 1 ≡ y - 1
-unfolding childWord
-same-gap w x y e = elim (decLt (x - 1) (y - 1)) [
-  | yes h ↦ absurd (omega (arith, e, pow-lt h))
-  | no h ↦ elim (decLt (y - 1) (x - 1)) [ yes l ↦ absurd (omega (arith, e, pow-lt l)) | no l ↦ omega arith ]
-]
-
 -- the rows of w, and the bit of a generator
 module _ {w m generators seeds : ℕ} (rows : TwoRows w m generators seeds) {i : ℕ} (g : List·Memᴰ i (positions generators)) where
   -- the child without it, and the bits that tell the child's generators
@@ -79,16 +68,9 @@ module _ {w m generators seeds : ℕ} (rows : TwoRows w m generators seeds) {i :
   abbrev bits : ℕ
   bits = movedRowOfChild generators seeds m i
 
-  -- the generator is one more than its bit
+  -- each bit is that of a generator
   generator-there : List·Memᴰ (suc i) (rightGenerators w)
-  generator-there =
-      let (d, x, e) = moved-offset 1 w (rows .levels) (subst (λ (n : ℕ). List·Memᴰ i (positions n)) (rows .first) g) in
-      let gap : conductor w + d ≡ suc i = omega (arith, conductor-pos w) in
-      subst (λ (y : ℕ). List·Memᴰ y (rightGenerators w)) gap x
-
-  -- the child has a level below it
-  levels-there : Levels 1 v
-  levels-there = child-levels 1 w (rows .levels) generator-there
+  generator-there = bit-generator 1 w (rows .levels) (subst (λ (n : ℕ). List·Memᴰ i (positions n)) (rows .first) g)
 
   -- each of its bits makes one word there
   words-below : leaves 1 v ≡ map (λ j. childWord v (suc j)) (positions bits)
@@ -112,12 +94,10 @@ module _ {w m generators seeds : ℕ} (rows : TwoRows w m generators seeds) {i :
 
     -- its conductor is two more than the bit
     place-there : censusPlace u ≡ 65 * m + 2 + j
-    unfolding leaves
     place-there =
-        let (x, y, z) = joined-mem (λ x. leaves 0 (childWord v x)) (rightGenerators v) word-there in
-        let same : u ≡ childWord v x = List·Memᴰ·eq-of-singleton z in
-        let child = child-of 0 v levels-there y in
-        omega (arith, ap censusPlace same, child-place v x child, ap multiplicity same, multiplicity-there, same-gap v (suc j) x same, child .high, conductor-pos v)
+        let (below, same) = child-told rows g in
+        let generator = bit-generator 0 v below (subst (λ (n : ℕ). List·Memᴰ j (positions n)) (sym same) k) in
+        omega (arith, child-place v (suc j) (child-of 0 v below generator), multiplicity-there)
 
   -- so the bits tell the places of the words below the child
   pub child-places : map censusPlace (leaves 1 (childWord w (suc i))) ≡ map (λ j. 65 * m + 2 + j) (positions (movedRowOfChild generators seeds m i))
@@ -125,4 +105,4 @@ module _ {w m generators seeds : ℕ} (rows : TwoRows w m generators seeds) {i :
 
   -- these are among the 2,210
   pub are-places : ArePlaces (65 * m + 2) (movedRowOfChild generators seeds m i)
-  are-places j k = subst (λ (p : ℕ). p < 2210) (place-there k) (leaf-place 1 v levels-there (word-there k))
+  are-places j k = subst (λ (p : ℕ). p < 2210) (place-there k) (leaf-place 1 v (child-told rows g .0) (word-there k))

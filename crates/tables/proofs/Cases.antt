@@ -16,7 +16,7 @@ use Rattle.words.specs.Tree.{leaves}
 use Rattle.words.specs.Answers.{Answer, refused, given, askWord}
 use Rattle.tables.specs.Seeds.{leftAfter, seedOfOrder, orderOneSeed, seed, row, firstRowOnes, seedBits, seedTable}
 use Rattle.tables.specs.Child.{struck, struckBits, padded, lastThreeSet, childBits}
-use Rattle.tables.specs.Nodes.{nodeOf, firstRow, secondRow, rowAt, rowOfChild, childRow}
+use Rattle.tables.specs.Nodes.{nodeOf, firstRow, secondRow, rowAt, rowOfChild, childRow, childlessAt}
 use Rattle.tables.specs.Grandchildren.{grandchildCount}
 use Rattle.tables.specs.GreatGrandchildren.{triples, weight, greatCountByWeights, greatCountByRows}
 use Rattle.tables.specs.Answers.{nodeAnswer, tableOf, childOf, childElements, grandchildrenOf}
@@ -92,6 +92,11 @@ known-rows = (refl, refl)
 pub known-child-rows : let n : Node = record { word = 91; table = 237; conductor = 8 } in map (λ i. childRow n i 2) (0 ∷ 1 ∷ []) ≡ 4 ∷ 0 ∷ []
 unfolding run keep keepIf bit setOf elementsBelow elementAt digit rowAt rowOfChild childRow
 known-child-rows = refl
+
+-- the child of the word 91 at its last generator, 10, which is an order-one seed, has generators; that of the word 159 at 11, which is none, has none
+pub known-childless : (childlessAt record { word = 91; table = 237; conductor = 8 } 2 0 ≡ false) × (childlessAt record { word = 159; table = 455; conductor = 9 } 2 0 ≡ true)
+unfolding run keep keepIf bit setOf elementsBelow elementAt multiplicity secondRow childlessAt
+known-childless = (refl, refl)
 
 -- the great-grandchildren by rows 0, 1 and 2, as source 001 states their number, and in the tree: of the word 91, of whose two generators both are
 -- order-one seeds; of 79, where of two order-two seeds one has a 1 as many entries on as row 1 has; of 463, where one such seed of two is no

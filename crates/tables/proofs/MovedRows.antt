@@ -129,11 +129,18 @@ module _ (r w : ℕ) (at : Levels (suc r) w) where
   fits-first = fits-moved r w (rowAt (nodeOf w) 0) at first-row-offsets
 
   -- a bit of it is that of a generator, by its offset
-  pub moved-offset : {i : ℕ} → List·Memᴰ i (positions (movedRow w 0)) → (d : ℕ) × List·Memᴰ (conductor w + d) (rightGenerators w) × (conductor w - 1 + d ≡ i)
+  moved-offset : {i : ℕ} → List·Memᴰ i (positions (movedRow w 0)) → (d : ℕ) × List·Memᴰ (conductor w + d) (rightGenerators w) × (conductor w - 1 + d ≡ i)
   unfolding movedRow
   moved-offset {i} m =
       let (d, there, e) = Memᴰ·of-map (λ d. conductor w - 1 + d) (positions (rowAt (nodeOf w) 0)) (subst (List·Memᴰ i) (positions-moved r w (rowAt (nodeOf w) 0) at first-row-offsets) m) in
       (d, first-row-offsets d there, e)
+
+  -- the generator is one more than its bit
+  pub bit-generator : {i : ℕ} → List·Memᴰ i (positions (movedRow w 0)) → List·Memᴰ (suc i) (rightGenerators w)
+  bit-generator {i} m =
+      let (d, x, e) = moved-offset m in
+      let gap : conductor w + d ≡ suc i = omega (arith, conductor-pos w) in
+      subst (λ (y : ℕ). List·Memᴰ y (rightGenerators w)) gap x
 
 -- ---- as a loop has them: rest has the generators from one of them on, which is at the lowest bit, and others has those after it
 
@@ -164,7 +171,7 @@ module _ {w m generators seeds : ℕ} (rows : TwoRows w m generators seeds) wher
     v = childWord w (suc i)
 
     -- the child without the generator of bit i has a level below it, and its row 0 is told by both rows
-    child-told : Levels 1 v × (movedRow v 0 ≡ movedRowOfChild generators seeds m i)
+    pub child-told : Levels 1 (childWord w (suc i)) × (movedRow (childWord w (suc i)) 0 ≡ movedRowOfChild generators seeds m i)
     child-told =
         let (d, x, e) = moved-offset 1 w (rows .levels) (subst (λ (n : ℕ). List·Memᴰ i (positions n)) (rows .first) g) in
         let gap : conductor w + d ≡ suc i = omega (arith, conductor-pos w) in

@@ -23,7 +23,8 @@ unfoldable pub weight : ℕ → ℕ → ℕ
 weight n bits = ones (bits % 2 ^ n)
 
 -- the theorem of source 001 for k of at least 3, with S the table, m the multiplicity, u and v the lengths of rows 1 and 2, and the weight of m
--- bits of S as the number of children. With k = 2 the source has another formula, and with k = 1 it leaves m = 3 out
+-- bits of S as the number of children. The source calls u and v the jumps of index 0 and 1; its example has those of index 1 and 2. With k = 2 it
+-- has another formula, and with k = 1 it leaves m = 3 out
 unfoldable pub greatCountByWeights : ℕ → ℕ
 greatCountByWeights w =
     let (S, m) : ℕ × ℕ = (seedTable w, multiplicity w) in
