@@ -452,6 +452,21 @@ fn descendants() {
     show_descendants(0, 18446744073709551615);
 }
 
+// Children, grandchildren and great-grandchildren of source 001's example, and great-grandchildren of words with k of 3 and below.
+fn great_grandchildren() {
+    show_descendants(427392895, 23);
+    show_descendants(427392895, 24);
+    show_descendants(427392895, 25);
+    show_descendants(91, 8);
+    show_descendants(79, 8);
+    show_descendants(463, 10);
+    show_descendants(159, 9);
+    show_descendants(11, 6);
+    show_descendants(3, 5);
+    show_descendants(1, 4);
+    show_descendants(0, 3);
+}
+
 fn main() {
     example_1_4();
     example_1_5();
@@ -465,4 +480,5 @@ fn main() {
     grandchildren();
     children();
     descendants();
+    great_grandchildren();
 }

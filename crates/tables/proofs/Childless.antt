@@ -31,14 +31,17 @@ use Rattle.tables.proofs.NewGaps.{upper-lowest, upper-in, upper-rest}
 -- ---- by the cases of the definition
 
 module _ (n : Node) (d others : ℕ) where
+  -- not where an offset comes after d
   pub childless-later : ¬ (others ≡ 0) → false ≡ childlessAt n d others
   unfolding childlessAt
   childless-later some = rw (ne-eqb others 0 some)
 
+  -- not where k is below 2
   pub childless-low : others ≡ 0 → n .conductor ≤ multiplicity (n .word) → false ≡ childlessAt n d others
   unfolding childlessAt
   childless-low last low = rw (eq-eqb others 0 last, le-ltb (multiplicity (n .word)) (n .conductor) low)
 
+  -- else as row 1 tells it
   pub childless-high : others ≡ 0 → multiplicity (n .word) < n .conductor → not (bit (secondRow n) d) ≡ childlessAt n d others
   unfolding childlessAt
   childless-high last high = rw (eq-eqb others 0 last, lt-ltb (multiplicity (n .word)) (n .conductor) high)

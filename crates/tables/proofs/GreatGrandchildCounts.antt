@@ -94,6 +94,7 @@ module _ (w : ℕ) (at : Levels 3 w) (three : 3 ≤ conductor w - genus w) where
   abbrev offsets : List ℕ
   offsets = positions row-0
 
+  -- the genus, and that rows 0 and 1 are short
   few : genus w ≤ 32
   few = omega (arith, at .few)
 
@@ -108,10 +109,11 @@ module _ (w : ℕ) (at : Levels 3 w) (three : 3 ≤ conductor w - genus w) where
   unfolding nodeOf
   row-1-lt = rw (second-row-at (nodeOf w) (at .fits)) (row-at-lt w (at .fits) 1)
 
-  -- row 1 is no longer than row 0, as 2 m is an element
+  -- 2 m is an element
   twice-in : setOf w (m + m) ≡ true
   twice-in = closed-iff w (at .fits) .0 (at .closed) m m (multiplicity-in w (at .fits)) (multiplicity-in w (at .fits))
 
+  -- so that row 1, which has an entry, is no longer than row 0
   some-1 : 0 < u
   some-1 = omega (arith, element-rises w (at .fits) 1)
 

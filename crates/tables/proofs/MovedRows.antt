@@ -116,6 +116,7 @@ module _ (r w : ℕ) (at : Levels (suc r) w) where
   first-row-has =
       first-row-generators w (at .fits) (at .closed) (omega (arith, at .few)) ∙ ap (λ (row : ℕ). map (λ d. conductor w + d) (positions row)) (first-row-at (nodeOf w) (at .fits))
 
+  -- and so their offsets
   first-row-offsets : Offsets w (rowAt (nodeOf w) 0)
   first-row-offsets = offsets-row r w (rowAt (nodeOf w) 0) first-row-has
 
@@ -124,6 +125,7 @@ module _ (r w : ℕ) (at : Levels (suc r) w) where
   unfolding movedRow
   leaves-moved = leaves-row r w (rowAt (nodeOf w) 0) first-row-has ∙ sym (gap-branches-moved r w (rowAt (nodeOf w) 0) at first-row-offsets)
 
+  -- these are words of 64 bits
   fits-first : GapsFit w (movedRow w 0)
   unfolding movedRow
   fits-first = fits-moved r w (rowAt (nodeOf w) 0) at first-row-offsets
@@ -142,8 +144,9 @@ module _ (r w : ℕ) (at : Levels (suc r) w) where
       let gap : conductor w + d ≡ suc i = omega (arith, conductor-pos w) in
       subst (λ (y : ℕ). List·Memᴰ y (rightGenerators w)) gap x
 
--- ---- as a loop has them: rest has the generators from one of them on, which is at the lowest bit, and others has those after it
+-- ---- as a loop has them
 
+-- rest has the generators from one of them on, at is the lowest bit of it, and others has those after it: a moved row of the child without that one
 pub child-row-computed : {generators rest at others : ℕ} (next size : ℕ) → Upper generators rest → 0 < rest → (at ≡ lowestOffset rest) × (others ≡ rest - 2 ^ lowestOffset rest)
     → bitOr others (bitAnd next (rest - others) * 2 ^ size % 2 ^ 64) ≡ movedRowOfChild generators next size at
 child-row-computed next size from some low =
@@ -187,6 +190,7 @@ module _ {w m generators seeds : ℕ} (rows : TwoRows w m generators seeds) wher
     pub one-level-below : leaves 1 (childWord w (suc i)) ≡ gapBranches 0 (childWord w (suc i)) (movedRowOfChild generators seeds m i)
     one-level-below = leaves-moved 0 v (child-told .0) ∙ ap (gapBranches 0 v) (child-told .1)
 
+    -- and they are words of 64 bits
     pub child-bits-fit : GapsFit (childWord w (suc i)) (movedRowOfChild generators seeds m i)
     child-bits-fit = subst (GapsFit v) (child-told .1) (fits-first 0 v (child-told .0))
 
@@ -201,10 +205,11 @@ module _ {w m u generators seeds last : ℕ} (rows : ThreeRows w m u generators 
       let second = element-le-conductor w (o .fits) 2 (omega (arith, rows .three)) in
       (omega (arith, rows .least, multiplicity-element w (o .fits), element-rises w (o .fits) 1), omega (arith, rows .size, multiplicity-element w (o .fits), multiplicity-pos w (o .fits)))
 
-  -- the words are below the children without the generators, which are words of 64 bits
+  -- the words are below the children without the generators
   pub three-levels-below : leaves 3 w ≡ gapBranches 2 w generators
   three-levels-below = leaves-moved 2 w (rows .levels) ∙ ap (gapBranches 2 w) (sym (rows .first))
 
+  -- and these are words of 64 bits
   pub three-rows-fit : GapsFit w generators
   three-rows-fit = subst (GapsFit w) (sym (rows .first)) (fits-first 2 w (rows .levels))
 
@@ -260,7 +265,9 @@ module _ (r : ℕ) (n : Node) (at : NodeWithLevels r n) where
   unfolding movedRow
   node-row i row is = ap₂ (λ (a c : ℕ). a * 2 ^ (c - 1) % 2 ^ 64) (is ∙ ap (λ (k : Node). rowAt k i) (at .node)) (node-conductor r n at)
 
+-- the numbers that are read off a node are those of its word
 module _ (n : Node) {m row second : ℕ} (least : m ≡ multiplicity (n .word)) (first-is : row ≡ firstRow n) (second-is : second ≡ secondRow n) where
+  -- two rows, where the conductor is above the multiplicity
   pub node-two-rows : NodeWithLevels 2 n → multiplicity (n .word) < conductor (n .word)
       → TwoRows (n .word) m (row * 2 ^ (n .conductor - 1) % 2 ^ 64) (second * 2 ^ (n .conductor - 1) % 2 ^ 64)
   node-two-rows at later =
@@ -273,6 +280,7 @@ module _ (n : Node) {m row second : ℕ} (least : m ≡ multiplicity (n .word)) 
         second = λ i g. ap (λ (a : ℕ). bit a i) (node-row 2 n at 1 second (second-is ∙ second-row-at n fits));
       }
 
+  -- three, where it is above the second positive element
   pub node-three-rows : NodeWithLevels 3 n → elementAt (n .word) 2 < conductor (n .word) → {a third : ℕ} → a ≡ elementAt (n .word) 2 → third ≡ rowAt n 2
       → ThreeRows (n .word) m (a - m) (row * 2 ^ (n .conductor - 1) % 2 ^ 64) (second * 2 ^ (n .conductor - 1) % 2 ^ 64) (third * 2 ^ (n .conductor - 1) % 2 ^ 64)
   node-three-rows at below {a} {third} element-is third-is =

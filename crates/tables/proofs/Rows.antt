@@ -31,12 +31,14 @@ first-jump w fits = omega (arith, element-zero w fits, multiplicity-element w fi
 -- ---- rows 0 and 1 of a node
 
 module _ (n : Node) (fits : n .word < 2 ^ 64) where
+  -- row 0 begins at 0
   pub first-row-at : firstRow n ≡ rowAt n 0
   unfolding firstRow rowAt
   first-row-at =
       ap₂ (λ (t k : ℕ). t % 2 ^ k) (sym (ap (λ (k : ℕ). n .table / 2 ^ k) (element-zero (n .word) fits) ∙ div-one (n .table)))
       (sym (first-jump (n .word) fits))
 
+  -- row 1 begins at the multiplicity
   pub second-row-at : secondRow n ≡ rowAt n 1
   unfolding secondRow rowAt
   second-row-at = ap (λ (k : ℕ). n .table / 2 ^ k % 2 ^ (elementAt (n .word) 2 - k)) (multiplicity-element (n .word) fits)

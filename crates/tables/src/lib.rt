@@ -225,7 +225,7 @@ impl Node {
     }
 
     // Has the child at the lowest of some offsets no generators, as far as rows 0 and 1 tell it? The offsets are those of row 0 from one on. Where
-    // k is at least 2, the child has some exactly if an offset comes after its own, or its own is in row 1.
+    // k is at least 2, the child has none if no offset comes after its own and its own is not in row 1.
     pub fn is_childless_at(self, low: Lowest) -> bool
         ensures { λ r. ⌜ r ≡ childlessAt self (low .at .0) (low .rest) ⌝ }
     {
