@@ -1,6 +1,6 @@
 -- `census::tally_great_grandchildren` meets its contract. What is left to count makes, with what was counted, all that there is to count, and the
 -- bits that are left are the generators from one of them on. Assumes nothing.
-use Prim.Native.Nat.{ℕ, suc, _+_, _*_, _-_, _%_, _^_, _<_}
+use Prim.Native.Nat.{ℕ, suc, _+_, _*_, _-_, _%_, _^_}
 use mathlib.Core.Path.{_≡_, refl, ap, _∙_}
 use mathlib.Core.List.{map, List·Memᴰ}
 use native.Mathlib.Omega.{arith}
@@ -10,13 +10,13 @@ use lib.Pow.{pow-pos}
 use Rattle.words.specs.Words.{childWord}
 use Rattle.words.specs.Positions.{positions}
 use Rattle.words.specs.Tree.{leaves}
-use Rattle.words.proofs.Elements.{element-rises, multiplicity-element}
 use Rattle.tables.specs.NewGaps.{TwoRows, ThreeRows}
 use Rattle.tables.specs.declared.Node.{Node}
-use Rattle.tables.proofs.Levels.{node-conductor, conductor-within}
+use Rattle.tables.proofs.Levels.{conductor-within}
+use Rattle.tables.proofs.Rows.{second-above}
 use Rattle.tables.proofs.Branches.{TakenOff}
 use Rattle.tables.proofs.NewGaps.{upper-lowest, upper-bit, gap-word}
-use Rattle.tables.proofs.MovedRows.{child-row-computed, three-levels-below, three-rows-fit, child-two-rows, node-three-rows}
+use Rattle.tables.proofs.MovedRows.{child-row-computed, three-rows-low, three-levels-below, three-rows-fit, child-two-rows, node-three-rows}
 use Rattle.census.specs.Private.{censusPlace, tallied}
 use Rattle.census.proofs.RowPlaces.{with-multiplicity, TallyingGaps, gaps-begin, gap-room, gaps-again, gaps-end}
 use Rattle.census.proofs.tally_great_grandchildren.Statement.{statement}
@@ -96,22 +96,11 @@ module _ (c : tie.After-lowest-of Inv-loop μ-loop) where
       let row = child-row-computed (seeds at-rows) (m at-rows) (at-loop .loop .inv .upper) (omega arith) (c .lowest-of .ensures) in
       rw (child, row, lowest .value) (child-two-rows (rows at-rows) among)
 
--- the multiplicity is below the second positive element, which is below 64
-low : (c : tie.After-second-element Inv-loop μ-loop) → (c .before .multiplicity-of .result < c .second-element .result) × (c .second-element .result < 64)
-low c =
+-- the multiplicity is below the second positive element
+sub-u : tie.Need-sub-u Inv-loop μ-loop
+sub-u c =
     let start = c .before .before .before .before in
-    let at = start .pre .0 in
-    let fits = at .levels .fits in
-    omega (
-      arith,
-      c .before .multiplicity-of .ensures,
-      c .second-element .ensures,
-      multiplicity-element _ fits,
-      element-rises _ fits 1,
-      start .pre .1 .0,
-      node-conductor 3 _ at,
-      conductor-within 3 _ at,
-    )
+    omega (arith, c .before .multiplicity-of .ensures, c .second-element .ensures, second-above (start .args .n .word) (start .pre .0 .levels .fits))
 
 loop-holds : tie.Need-loop-holds Inv-loop μ-loop
 loop-holds c = gaps-begin (mod-lt _ (pow-pos 64)) (three-levels-below (rows c)) (start c .pre .1 .1)
@@ -142,7 +131,7 @@ tally-great-grandchildren-spec =
     (λ c. omega (arith, conductor-within 3 _ (c .before .before .pre .0)))
     (λ c κs. tt)
     (λ c κs. tt)
-    (λ c. omega (arith, low c))
+    sub-u
     (λ c κs. tt)
     (λ c. omega (arith, conductor-within 3 _ (c .before .before .before .before .before .pre .0)))
     (λ c κs. tt)
@@ -153,8 +142,8 @@ tally-great-grandchildren-spec =
     (λ c κs. tt)
     (λ c. omega (arith, lowest (c .before) .fewer))
     add-tally-by-rows
-    (λ c. omega (arith, low (at-rows (c .before) .before .before .before)))
-    (λ c. omega (arith, low (at-rows (c .before .before) .before .before .before)))
+    (λ c. three-rows-low (rows (at-rows (c .before))) .0)
+    (λ c. three-rows-low (rows (at-rows (c .before .before))) .1)
     tally-by-rows-requires
     (λ c. lowest (c .before .before .before .before .before .before) .fewer)
     loop-again
