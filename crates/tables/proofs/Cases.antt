@@ -3,7 +3,7 @@
 use Prim.Native.Nat.{ℕ}
 use mathlib.Core.Path.{_≡_, refl}
 use mathlib.Core.Bool.{true, false}
-use mathlib.Core.List.{List, [], _∷_, map}
+use mathlib.Core.List.{[], _∷_, map}
 use lib.Count.{ones}
 use lib.ListN.{length}
 use Rattle.words.specs.Lists.{run, keep, keepIf, every, joined, lastOr}
@@ -98,16 +98,16 @@ pub known-childless : (childlessAt record { word = 91; table = 237; conductor = 
 unfolding run keep keepIf bit setOf elementsBelow elementAt multiplicity secondRow childlessAt
 known-childless = (refl, refl)
 
--- the great-grandchildren by rows 0, 1 and 2, as source 001 states their number, and in the tree: of the word 91, of whose two generators both are
--- order-one seeds; of 79, where of two order-two seeds one has a 1 as many entries on as row 1 has; of 463, where one such seed of two is no
--- generator; of 159, which has three generators; and of 427392895, the example of source 001
-pub known-great-grandchildren : let words : List ℕ = 91 ∷ 79 ∷ 463 ∷ 159 ∷ 427392895 ∷ [] in
-    (map (λ w. greatCountByRows (nodeOf w)) words ≡ 3 ∷ 2 ∷ 1 ∷ 5 ∷ 6 ∷ []) × (map greatCountByWeights words ≡ 3 ∷ 2 ∷ 1 ∷ 5 ∷ 6 ∷ [])
-    × (map (λ w. length (leaves 3 w)) words ≡ 3 ∷ 2 ∷ 1 ∷ 5 ∷ 6 ∷ [])
-unfolding run keep keepIf every joined bit setOf gaps genus lastOr largestGap conductor childWord elementsBelow elementAt multiplicity generator rightGenerators leaves sumOfTwo leftAfter seed row seedBits digit ofBits seedTable nodeOf firstRow secondRow rowAt triples weight greatCountByWeights greatCountByRows ones
-known-great-grandchildren = (refl, refl, refl)
+-- the great-grandchildren by rows 0, 1 and 2: of the word 91, of whose two generators both are order-one seeds; of 79, where of two order-two seeds
+-- one has a 1 as many entries on as row 1 has; of 463, where one such seed of two is no generator; of 159, which has three generators; and of
+-- 427392895, the example of source 001, with the table that it prints
+pub known-great-grandchildren : let node : ℕ → ℕ → ℕ → Node = λ w s c. record { word = w; table = s; conductor = c } in
+    map greatCountByRows (node 91 237 8 ∷ node 79 227 8 ∷ node 463 1016 10 ∷ node 159 455 9 ∷ node 427392895 1040845323 30 ∷ []) ≡ 3 ∷ 2 ∷ 1 ∷ 5 ∷ 6 ∷ []
+unfolding run keep keepIf bit setOf elementsBelow elementAt multiplicity firstRow secondRow rowAt triples greatCountByRows ones
+known-great-grandchildren = refl
 
--- where k is below 3 that is another number: of the word 11, with k = 2, and of the word 3, with k = 1 and m = 3, which the source leaves out
-pub known-below-three : (map greatCountByWeights (11 ∷ 3 ∷ []) ≡ 1 ∷ 1 ∷ []) × (map (λ w. length (leaves 3 w)) (11 ∷ 3 ∷ []) ≡ 3 ∷ 11 ∷ [])
+-- as source 001 states the number, and in the tree: of the word 79 it is the same; where k is below 3 it is another, of the word 11, with k = 2, and
+-- of the word 3, with k = 1 and m = 3, which the source leaves out
+pub known-below-three : (map greatCountByWeights (79 ∷ 11 ∷ 3 ∷ []) ≡ 2 ∷ 1 ∷ 1 ∷ []) × (map (λ w. length (leaves 3 w)) (79 ∷ 11 ∷ 3 ∷ []) ≡ 2 ∷ 3 ∷ 11 ∷ [])
 unfolding run keep keepIf every joined bit setOf gaps genus lastOr largestGap conductor childWord elementsBelow elementAt multiplicity generator rightGenerators leaves sumOfTwo leftAfter seed row seedBits digit ofBits seedTable triples weight greatCountByWeights ones
 known-below-three = (refl, refl)
