@@ -1,5 +1,7 @@
 // What the calls answer with: the refusals of the atlas, numbers that are given or looked for, and the three counts; and a question about
 // lists of bytes.
+#![tactic(auto)]
+
 ghost use Rattle.std.specs.Prelude.{◌+◌, ◌-◌, ◌^◌, min, ◌≡◌, ltb};
 ghost use Rattle.semigroups.specs.Lists.{every};
 ghost use Rattle.answers.specs.Answers.{number_of};

@@ -1,6 +1,8 @@
 // The calls of the atlas for callers in C and in languages that call C. An answer is a struct by value: first, of a call that can be
 // refused, the number of the refusal, 0 where there is none, then the values, all 0 where the call is refused. A list is a pointer and a
 // length.
+#![tactic(auto)]
+
 ghost use Rattle.std.specs.Prelude.{◌≡◌, true, []};
 ghost use Rattle.semigroups.specs.Openings.{opening_of};
 ghost use Rattle.answers.specs.Answers.{answered};

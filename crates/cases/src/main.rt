@@ -1,6 +1,8 @@
 // Runs further cases of the papers on gap words, openings, seed tables, children, windows of multiplicities, searches and descendants, and
 // prints what the calls answer. What it prints is held to the stored file: the tables of the descendants of example 1.4 worked by hand by
 // lemma 3.1, the rest computed apart from the plain definitions. The marked cases are proved: proofs/Marked.antt.
+#![tactic(auto)]
+
 use answers::{Element, Found, FoundAnswer, NumberAnswer, Refusal};
 use libc::STDOUT_FILENO;
 use tables::TableAnswer;

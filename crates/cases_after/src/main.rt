@@ -1,6 +1,8 @@
 // Runs further cases of the papers on what comes after the walk: generators both ways, joined lists of them, elementary counts, Kunz
 // coordinates both ways, censuses, a list of generators that changes and saved jobs both ways. What it prints is held to the stored file,
 // which was computed apart from the plain definitions.
+#![tactic(auto)]
+
 use answers::{NumberAnswer, Refusal};
 use editor::{ChangeAnswer, Changed, Editor};
 use jobs::JobAnswer;

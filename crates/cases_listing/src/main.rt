@@ -1,6 +1,8 @@
 // Runs further cases of the listing: what the listing program writes for its input, which is empty here; header lines in lists that are too
 // short for them and in others; and what the program writes for other inputs. What it prints is held to the stored file, which was computed
 // apart from the plain definitions.
+#![tactic(auto)]
+
 use answers::{NumberAnswer, Refusal};
 use libc::{STDIN_FILENO, STDOUT_FILENO};
 use listing::{ListingAnswer, PageAnswer};

@@ -2,6 +2,8 @@
 // these conductors. It goes down the tree once, to the nodes three levels above the genus: their rows 0, 1 and 2 tell the places of the words
 // below them. Only where k, the number of elements below the conductor, is 1 or 2, which holds for few nodes of each genus, are the nodes below
 // made.
+#![tactic(auto)]
+
 ghost use Rattle.std.specs.Prelude.{◌+◌, ◌^◌, ◌≤◌, ◌<◌, ◌≡◌, map, length};
 ghost use Rattle.semigroups.specs.Lists.{fronted};
 ghost use Rattle.semigroups.specs.Words.{conductor};

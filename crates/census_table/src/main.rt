@@ -1,6 +1,8 @@
 // The census program: reads a genus from standard input and writes a table of the numbers of its semigroups, with a line for each
 // multiplicity and a column for each conductor that occurs, or the line of a refusal, 10 for an empty input, too. The numbers are those that
 // the census call writes: at place 65 m + c that of multiplicity m, 0 to 33, and conductor c, 0 to 64.
+#![tactic(auto)]
+
 use answers::{NumberAnswer, Refusal};
 use libc::{STDIN_FILENO, STDOUT_FILENO};
 use requests::RequestAnswer;

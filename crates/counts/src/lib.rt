@@ -1,4 +1,6 @@
 // The number of semigroups of a genus whose smallest gaps are exactly a word's, by the tree.
+#![tactic(auto)]
+
 ghost use Rattle.std.specs.Prelude.{◌+◌, ◌≤◌, ◌<◌, ◌≡◌, length};
 ghost use Rattle.semigroups.specs.Words.{conductor};
 ghost use Rattle.semigroups.specs.Tree.{leaves};

@@ -1,4 +1,6 @@
 // The words below a word in the tree: of a genus the first of its descendants, and the words of a window from one on, written into a lent list.
+#![tactic(auto)]
+
 ghost use Rattle.std.specs.Prelude.{◌+◌, ◌≤◌, ◌<◌, ◌≡◌, length};
 ghost use mathlib.Core.List.{head?, Memᴰ};
 ghost use Rattle.semigroups.specs.Lists.{on_from};

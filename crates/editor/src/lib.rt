@@ -1,4 +1,6 @@
 // A list of generators that changes: up to sixteen bytes in order of arrival, with the answer of the call for a word from generators.
+#![tactic(auto)]
+
 ghost use Rattle.std.specs.Prelude.{◌≤◌, ◌<◌, ◌≡◌, [], eqb, take};
 ghost use Rattle.semigroups.specs.Lists.{every};
 ghost use Rattle.answers.specs.Answers.{answered, refused, number_of};

@@ -1,4 +1,6 @@
 // The number of elementary semigroups of a genus with a largest gap.
+#![tactic(auto)]
+
 ghost use Rattle.std.specs.Prelude.{◌≡◌, ◌<◌};
 ghost use Rattle.answers.specs.Answers.{answered};
 ghost use Rattle.elementary.specs.Elementary.{binomial as choose};

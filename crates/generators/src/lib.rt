@@ -1,4 +1,6 @@
 // Minimal generators of a gap word.
+#![tactic(auto)]
+
 ghost use Rattle.std.specs.Prelude.{◌+◌, ◌≤◌, ◌≡◌, map, ◌++◌, length, take};
 ghost use Rattle.semigroups.specs.Lists.{fronted};
 ghost use Rattle.semigroups.specs.Words.{conductor};

@@ -1,6 +1,8 @@
 // What callers in C, and in languages that call C, get of the answers of the atlas, and the walk that they hand over. An answer is a struct
 // by value: first, of a call that can be refused, the number of the refusal, 0 where there is none, then the values, all 0 where the call is
 // refused.
+#![tactic(auto)]
+
 ghost use mathlib.Core.Path.{◌≡◌};
 ghost use Rattle.answers.specs.Answers.{answered, sought, sought_answered, number_of};
 ghost use Rattle.words.specs.Looks.{looked};

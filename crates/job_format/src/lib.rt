@@ -1,4 +1,6 @@
 // The format of saved jobs: the bit map and the fields of a job, read from any list of bytes and laid out into a lent one.
+#![tactic(auto)]
+
 ghost use Rattle.std.specs.Prelude.{◌+◌, ◌≤◌, ◌<◌, ◌≡◌, true, not, ◌||◌, ◌++◌, length, get_or, take, drop};
 ghost use Rattle.semigroups.specs.Lists.{fronted};
 ghost use Rattle.semigroups.specs.Words.{bit};

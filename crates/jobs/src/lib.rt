@@ -1,4 +1,6 @@
 // Saved jobs: a walk and the number of words written so far as bytes, and back.
+#![tactic(auto)]
+
 ghost use Rattle.std.specs.Prelude.{◌≡◌};
 ghost use Rattle.answers.specs.Answers.{listed, into_lent};
 ghost use Rattle.job_format.specs.Format.{value_or};

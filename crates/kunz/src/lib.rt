@@ -1,4 +1,6 @@
 // Kunz coordinates by multiplicity: those of a gap word as bytes, and the word of a list of them.
+#![tactic(auto)]
+
 ghost use Rattle.std.specs.Prelude.{◌+◌, ◌-◌, ◌*◌, ◌%◌, ◌^◌, ◌≤◌, ◌<◌, min, ◌≡◌, ◌&&◌, eqb, length};
 ghost use Rattle.semigroups.specs.Lists.{sum_over, fronted};
 ghost use Rattle.semigroups.specs.Sets.{gaps_to};

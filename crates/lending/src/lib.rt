@@ -1,4 +1,6 @@
 // A lent list that is filled with words from the front, as far as it has room.
+#![tactic(auto)]
+
 ghost use Rattle.std.specs.Prelude.{◌≡◌, ◌+◌, ◌≤◌, [], ◌∷◌, length};
 ghost use Rattle.lending.specs.Lending.{up_to, put_all, with_each};
 

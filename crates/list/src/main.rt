@@ -1,5 +1,7 @@
 // The listing program: reads a genus from standard input and writes its listing; the header lines of genus 0 to 20 where the input is empty;
 // or the line of a refusal.
+#![tactic(auto)]
+
 use answers::{NumberAnswer, Refusal};
 use libc::{STDIN_FILENO, STDOUT_FILENO};
 use listing::{Listing, ListingAnswer, PageAnswer};

@@ -1,4 +1,6 @@
 // The listing of a genus as text in lent lists of bytes, header lines alone, and the line of a refusal.
+#![tactic(auto)]
+
 ghost use Rattle.std.specs.Prelude.{◌+◌, ◌*◌, ◌/◌, ◌≤◌, min, ◌≡◌, cond, ◌++◌, leb, length};
 ghost use Rattle.semigroups.specs.Lists.{joined};
 ghost use Rattle.answers.specs.Answers.{number_of, answered, listed};

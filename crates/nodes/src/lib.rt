@@ -1,5 +1,7 @@
 // A semigroup under way, which carries its word, seed table and conductor: its child, the rows of its table, and the numbers of its grandchildren
 // and great-grandchildren.
+#![tactic(auto)]
+
 ghost use Rattle.std.specs.Prelude.{◌≡◌, ◌-◌, ◌^◌, ◌<◌, ◌≤◌, count_ones};
 ghost use Rattle.semigroups.specs.Elements.{element_at};
 ghost use Rattle.seeds.specs.Child.{raked};

@@ -1,4 +1,6 @@
 // The reading of the listing program's input: what it asks for.
+#![tactic(auto)]
+
 ghost use Rattle.std.specs.Prelude.{◌≡◌, [], ◌∷◌};
 ghost use Rattle.requests.specs.Digits.{is_digit};
 ghost use Rattle.requests.specs.Request.{request_answered, request_of};

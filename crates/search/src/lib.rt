@@ -1,5 +1,7 @@
 // The search for a semigroup with a wanted genus, largest gap and multiplicity: down the tree below the first word of the multiplicity, past
 // every branch that can't reach the largest gap.
+#![tactic(auto)]
+
 ghost use Rattle.std.specs.Prelude.{◌+◌, ◌*◌, ◌-◌, ◌%◌, ◌^◌, ◌≤◌, ◌<◌, ◌≡◌, pos};
 ghost use mathlib.Core.List.{head?};
 ghost use Rattle.semigroups.specs.Sets.{sum_of_two};

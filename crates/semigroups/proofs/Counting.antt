@@ -132,12 +132,17 @@ unfolding count_below
 count_first p zero = refl
 count_first p (suc n) = let a = count_first p n in omega arith
 
+-- the range counted from its other end, with its first number apart
+count_reverse_first : (p : ℕ → Bool) (x : ℕ)
+    → count_below (λ i. p (suc x - i)) (suc (suc x)) ≡ digit (p (suc x)) + count_below (λ i. p (x - i)) (suc x)
+count_reverse_first p x = count_first (λ i. p (suc x - i)) (suc x) ∙ simp (suc-sub-suc, sub-zero)
+
 -- the range counted from its other end
 pub count_reverse : (p : ℕ → Bool) (x : ℕ) → count_below (λ i. p (x - i)) (suc x) ≡ count_below p (suc x)
 unfolding count_below
 count_reverse p zero = refl
 count_reverse p (suc x) =
-    count_first (λ i. p (suc x - i)) (suc x) ∙ simp (suc-sub-suc, sub-zero, count_reverse p x)
+    count_reverse_first p x ∙ ap (λ n. digit (p (suc x)) + n) (count_reverse p x)
 
 -- one number less takes at most 1 off the count
 count_without : (x : ℕ) (p : ℕ → Bool) (n : ℕ) → count_below p n ≤ suc (count_below (without x p) n)

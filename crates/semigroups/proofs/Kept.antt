@@ -75,6 +75,7 @@ module _ {A : Type 0} where
   pub ordered_first : (R : A → A → Type 0) (l : List A) {x : A} → Ordered R l → Memᴰ x l → ((y : A) → Memᴰ y l → R y x → ⊥)
       → (t : List A) × (l ≡ x ∷ t)
   unfolding Ordered
+  ordered_first R [] o m first = elim m [ ]
   ordered_first R (y ∷ l) o (Memᴰ.head e) first = (l, ap (λ (z : A). z ∷ l) (sym e))
   ordered_first R (y ∷ l) {x} o (Memᴰ.tail m) first = absurd (first y (Memᴰ.head refl) (o.0 x m))
 

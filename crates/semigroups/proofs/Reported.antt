@@ -47,6 +47,9 @@ module _ (S : Set) where
   largest_unique (pos f) (negsuc zero) p q = absurd (not_both (q f) p.gap)
   largest_unique (negsuc zero) (pos g) p q = absurd (not_both (p g) q.gap)
   largest_unique (negsuc zero) (negsuc zero) p q = refl
+  largest_unique (pos f) (negsuc (suc _)) p q = elim q [ ]
+  largest_unique (negsuc zero) (negsuc (suc _)) p q = elim q [ ]
+  largest_unique (negsuc (suc _)) z p q = elim p [ ]
 
 -- ---- of a word
 

@@ -1,4 +1,6 @@
 // The word of the sums of given generators.
+#![tactic(auto)]
+
 ghost use Rattle.std.specs.Prelude.{◌-◌, ◌<◌, ◌≡◌, ◌||◌, ◌&&◌, not, leb, eqb, length};
 ghost use Rattle.std.specs.Int.Bits.{bit_and};
 ghost use Rattle.semigroups.specs.Lists.{member_of};

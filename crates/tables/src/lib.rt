@@ -1,4 +1,6 @@
 // Seed tables, children and grandchildren of words: the calls that go through the node of a word.
+#![tactic(auto)]
+
 ghost use Rattle.std.specs.Prelude.{◌<◌, ◌≡◌};
 ghost use Rattle.answers.specs.Answers.{answered};
 ghost use Rattle.words.specs.Looks.{Accepted};

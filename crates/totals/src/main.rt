@@ -1,6 +1,8 @@
 // Prints the totals of genus 0 to 32, by the count call and by a walk in batches of an odd size; those of the windows of one multiplicity
 // of genus 20; and compares a plain search of all gap sets up to genus 12 with a walk, word by word. What it prints is held to the stored
 // file: the totals are those published in A007323, those by multiplicity were computed apart from the plain definitions.
+#![tactic(auto)]
+
 use answers::NumberAnswer;
 use libc::STDOUT_FILENO;
 use walk::{BatchAnswer, Walk, WalkAnswer};

@@ -1,4 +1,6 @@
 // The walk over the numerical semigroups of a genus with a multiplicity in a window, in list order.
+#![tactic(auto)]
+
 ghost use Rattle.std.specs.Prelude.{◌≡◌};
 ghost use Rattle.walk.specs.Answers.{begun};
 ghost use Rattle.walk.specs.Walks.{in_order, ended, fresh_of, fresh_in_of, start_of, start_in_of, batch_of};

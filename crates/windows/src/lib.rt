@@ -1,4 +1,6 @@
 // Windows of multiplicities over a genus: the tests of a multiplicity and of a word, and the first word of a window in list order.
+#![tactic(auto)]
+
 ghost use Rattle.std.specs.Prelude.{◌+◌, ◌≤◌, min, ◌≡◌};
 ghost use Rattle.semigroups.specs.Words.{word_of};
 ghost use Rattle.windows.specs.Windows.{within, holds, not_divided};

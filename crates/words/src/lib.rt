@@ -1,4 +1,6 @@
 // Gap words: the counts that belong to them, looking at a word, and openings.
+#![tactic(auto)]
+
 ghost use Rattle.std.specs.Prelude.{◌-◌, ◌%◌, ◌^◌, ◌≡◌};
 ghost use Rattle.semigroups.specs.Words.{genus, conductor, closed};
 ghost use Rattle.semigroups.specs.Elements.{multiplicity};
