@@ -7,15 +7,15 @@ ghost use Rattle.semigroups.specs.Lists.{every};
 ghost use Rattle.answers.specs.Answers.{number_of};
 
 // An element of a set.
-#[derive(Drop)]
+#[derive(Clone, Copy)]
 pub struct Element(pub u64);
 
 // An index in the list of elements.
-#[derive(Drop)]
+#[derive(Clone, Copy)]
 pub struct Index(pub u64);
 
 // An offset from the conductor.
-#[derive(Drop)]
+#[derive(Clone, Copy)]
 pub struct Offset(pub u64);
 
 impl Element {
