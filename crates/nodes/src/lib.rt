@@ -240,7 +240,7 @@ impl Node {
 }
 
 // The lowest of some offsets, which are the bits of a number, and the others.
-#[derive(Drop)]
+#[derive(Clone, Copy)]
 pub struct Lowest {
     pub at: Offset,
     pub rest: u64,

@@ -87,7 +87,7 @@ fn windows() {
 // ---- a plain search of gap sets, compared word by word with a walk
 
 // A search under way: the walk that it is compared with, the closed gap sets found, and the places where the two differ.
-#[derive(Drop)]
+#[derive(Clone, Copy)]
 struct Progress {
     walk: Walk,
     found: u64,
