@@ -3,7 +3,6 @@
 use Prim.Native.Nat.{◌-◌, ◌<◌}
 use mathlib.Core.Path.{sym, ap, ◌∙◌, subst}
 use native.Mathlib.Omega.{arith}
-use borrow.Author.Rules.{rules}
 use Rattle.semigroups.specs.Words.{genus}
 use Rattle.nodes.specs.Nodes.{node_of, child_node}
 use Rattle.tables.proofs.Way.{OnTheWay, way_begins, way_goes_on}
@@ -17,7 +16,7 @@ goes_on c =
     let start = c in
     let n = c.loop-n.n in
     way_goes_on start.args.word (omega arith) start.requires n c.child-n.result c.loop-n.invariant
-    c.loop-n-test.true (c.child-n.ensures ∙ ap (child_node n) c.next_offset_is.ensures)
+    c.loop-n-test.true (c.child-n.ensures ∙ ap (child_node n) c.next_offset.ensures)
 
 pub loop-n-init : goal.loop-n-init
 loop-n-init c = subst (OnTheWay c.args.word) (sym c.root-n.ensures) (way_begins c.args.word)
@@ -30,4 +29,3 @@ loop-n-preserved c = (goes_on (goal.at.loop-n-preserved c).After-child-n).0
 
 pub returns : goal.returns
 returns c = c.loop-n.invariant.node ∙ ap node_of c.loop-n-test.false
-

@@ -4,7 +4,6 @@ use mathlib.Core.Path.{◌≡◌, sym, ap, ◌∙◌}
 use mathlib.Core.Bool.{Bool, true, false}
 use native.Mathlib.Omega.{arith}
 use native.Mathlib.Nat.{lt_of_le_of_lt, mod-le}
-use borrow.Author.Rules.{rules}
 use borrow.Author.Tests.{eq-eqb, ne_eqb}
 use Rattle.semigroups.specs.Words.{bit}
 use Rattle.semigroups.proofs.Bits.{bit_past, bit_test}
@@ -35,18 +34,17 @@ returns-then-d-gt63 c =
 
 pub returns-then-first_row-d-ne1 : goal.returns-then-first_row-d-ne1
 returns-then-first_row-d-ne1 c =
-    let row = c in
-    let at = row in
+    let at = c in
+    let row = (goal.at.returns-then-first_row-d-ne1 c).After-first_row in
     let d = at.of_element-d.result.0 in
     sym (refused_there _ _ at.requires d at.of_element-d.ensures
     (tested row false (sym (bit_test row.first_row.result d) ∙ ne_eqb _ 1 c.if-first_row-d-ne1.true)))
 
 pub returns : goal.returns
 returns c =
-    let row = c in
-    let at = row in
+    let at = c in
+    let row = (goal.at.returns c).After-first_row in
     let d = at.of_element-d.result.0 in
     ap (λ (k : Node). given k.word) c.child-next.ensures
     ∙ sym (given_there _ _ at.requires d at.of_element-d.ensures
     (omega arith) (tested row true (sym (bit_test row.first_row.result d) ∙ eq-eqb _ 1 c.if-first_row-d-ne1.false)))
-

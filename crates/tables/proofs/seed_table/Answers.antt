@@ -3,7 +3,6 @@ use Prim.Native.Nat.{ℕ}
 use mathlib.Core.Path.{sym, ap, ap₂, ◌∙◌}
 use native.Mathlib.Omega.{arith}
 use lib.Count.{ones}
-use borrow.Author.Rules.{rules}
 use Rattle.answers.specs.Answers.{refused, given}
 use Rattle.words.proofs.Looks.{word_refused, word_given}
 use Rattle.nodes.specs.Nodes.{node_of, first_row}
@@ -16,14 +15,13 @@ use Rattle.tables.proofs.seed_table.Goals as goal
 
 pub returns-in-Refused : goal.returns-in-Refused
 unfolding table_of node_answer
-returns-in-Refused c = sym (word_refused _ (node_of _) refused _ _ (sym c.node_of-answer.ensures ∙ ap noded c.answer-1.given.1))
+returns-in-Refused c = sym (word_refused _ (node_of _) refused _ _ (sym c.node_of-answer.ensures ∙ ap noded c.in-Refused.is))
 
 pub returns-in-Given : goal.returns-in-Given
 unfolding node_of node_answer
 returns-in-Given c =
     let at = c in
-    let (h, same) = word_given _ (node_of _) _ (sym at.node_of-answer.ensures ∙ ap noded at.answer-in-Given-1.given.1) in
+    let (h, same) = word_given _ (node_of _) _ (sym at.node_of-answer.ensures ∙ ap noded at.in-Given.is) in
     ap₂ (λ (s n : ℕ). given record { table = s; generators = n }) (ap (λ (n : Node). n.table) same)
     (c.generators.ensures ∙ ap (λ (n : Node). ones (first_row n)) same ∙ sym (first_row_count _ (omega arith) h.closed h.few) ∙ sym (first_row_ones_count _ (omega arith)))
     ∙ sym (table_given_is _ h)
-
