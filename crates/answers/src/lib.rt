@@ -7,15 +7,15 @@ ghost use Rattle.semigroups.specs.Lists.{every};
 ghost use Rattle.answers.specs.Answers.{number_of};
 
 // An element of a set.
-#[derive(Drop)]
+#[derive(Clone, Copy)]
 pub struct Element(pub u64);
 
 // An index in the list of elements.
-#[derive(Drop)]
+#[derive(Clone, Copy)]
 pub struct Index(pub u64);
 
 // An offset from the conductor.
-#[derive(Drop)]
+#[derive(Clone, Copy)]
 pub struct Offset(pub u64);
 
 impl Element {
@@ -61,7 +61,7 @@ fn difference(from: u64, by: u64) -> u64
 }
 
 // What is wrong with the arguments of a call: the question that they fail.
-#[derive(Drop)]
+#[derive(Clone, Copy)]
 pub enum Refusal {
     TooManyGaps,
     NotClosed,
@@ -114,21 +114,21 @@ impl Refusal {
 }
 
 // The answer of a call that gives a number.
-#[derive(Drop)]
+#[derive(Clone, Copy)]
 pub enum NumberAnswer {
     Refused(Refusal),
     Given(u64),
 }
 
 // What is looked for, a word or another number: found, or that there is none.
-#[derive(Drop)]
+#[derive(Clone, Copy)]
 pub enum Found {
     Number(u64),
     Nothing,
 }
 
 // The answer of a call that looks for a number.
-#[derive(Drop)]
+#[derive(Clone, Copy)]
 pub enum FoundAnswer {
     Refused(Refusal),
     Given(Found),

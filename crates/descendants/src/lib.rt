@@ -23,7 +23,7 @@ use nodes::Node;
 use tables::NodeAnswer;
 
 // The answer of the call that writes the words of a window from a word on.
-#[derive(Drop)]
+#[derive(Clone, Copy)]
 pub enum FilledAnswer {
     Refused(Refusal),
     Given(Filled),

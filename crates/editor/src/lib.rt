@@ -13,7 +13,7 @@ ghost use Rattle.editor.specs.Private.{first_place, without_place, with_answer, 
 use answers::{NumberAnswer, Refusal};
 
 // Sixteen places, of which the first `length` are held, and the answer of the call for a word from generators for these.
-#[derive(Drop)]
+#[derive(Clone, Copy)]
 pub struct Editor {
     pub bytes: [u8; 16],
     pub length: usize,
@@ -21,14 +21,14 @@ pub struct Editor {
 }
 
 // The answer of a change.
-#[derive(Drop)]
+#[derive(Clone, Copy)]
 pub enum ChangeAnswer {
     Refused(Refusal),
     Made,
 }
 
 // What a change gives: the state afterwards, which is the one before where it is refused, and its answer.
-#[derive(Drop)]
+#[derive(Clone, Copy)]
 pub struct Changed {
     pub editor: Editor,
     pub answer: ChangeAnswer,

@@ -21,7 +21,7 @@ use words::LookAnswer;
 
 // A number, or the number of a refusal.
 #[repr(C)]
-#[derive(Drop)]
+#[derive(Clone, Copy)]
 pub struct AtlasNumber {
     pub refused: u64,
     pub value: u64,
@@ -29,7 +29,7 @@ pub struct AtlasNumber {
 
 // A seed table and the number of 1s in its row 0, or the number of a refusal.
 #[repr(C)]
-#[derive(Drop)]
+#[derive(Clone, Copy)]
 pub struct AtlasTable {
     pub refused: u64,
     pub table: u64,
@@ -38,7 +38,7 @@ pub struct AtlasTable {
 
 // Whether there is a word that was looked for, and which, or the number of a refusal.
 #[repr(C)]
-#[derive(Drop)]
+#[derive(Clone, Copy)]
 pub struct AtlasFound {
     pub refused: u64,
     pub found: bool,
@@ -47,7 +47,7 @@ pub struct AtlasFound {
 
 // Whether there is an impossible opening, and the number of gaps of the shortest.
 #[repr(C)]
-#[derive(Drop)]
+#[derive(Clone, Copy)]
 pub struct AtlasShortest {
     pub found: bool,
     pub length: u64,
@@ -55,7 +55,7 @@ pub struct AtlasShortest {
 
 // What is told of a word, or the number of a refusal. The conductor is the reported one.
 #[repr(C)]
-#[derive(Drop)]
+#[derive(Clone, Copy)]
 pub struct AtlasReport {
     pub refused: u64,
     pub genus: u64,
@@ -66,7 +66,7 @@ pub struct AtlasReport {
 
 // A walk: its genus, the next word, the lowest and the highest multiplicity, and the finished mark, 0 or 1.
 #[repr(C)]
-#[derive(Drop)]
+#[derive(Clone, Copy)]
 pub struct AtlasWalk {
     pub genus: u64,
     pub word: u64,
@@ -77,7 +77,7 @@ pub struct AtlasWalk {
 
 // A walk that a call began, or the number of a refusal.
 #[repr(C)]
-#[derive(Drop)]
+#[derive(Clone, Copy)]
 pub struct AtlasBegun {
     pub refused: u64,
     pub walk: AtlasWalk,
@@ -85,7 +85,7 @@ pub struct AtlasBegun {
 
 // How a batch ended: the number of a refusal, the walk afterwards, the number of words written, and whether none are left.
 #[repr(C)]
-#[derive(Drop)]
+#[derive(Clone, Copy)]
 pub struct AtlasMoved {
     pub refused: u64,
     pub walk: AtlasWalk,
@@ -95,7 +95,7 @@ pub struct AtlasMoved {
 
 // A walk and the number of words written so far that a job keeps, or the number of a refusal.
 #[repr(C)]
-#[derive(Drop)]
+#[derive(Clone, Copy)]
 pub struct AtlasSaved {
     pub refused: u64,
     pub walk: AtlasWalk,
@@ -104,7 +104,7 @@ pub struct AtlasSaved {
 
 // A list of generators that changes: sixteen places, the number of them that are held, and the kept answer.
 #[repr(C)]
-#[derive(Drop)]
+#[derive(Clone, Copy)]
 pub struct AtlasEditor {
     pub bytes: [u8; 16],
     pub length: usize,
@@ -113,7 +113,7 @@ pub struct AtlasEditor {
 
 // What a change of such a list gives: the number of a refusal, and the state afterwards.
 #[repr(C)]
-#[derive(Drop)]
+#[derive(Clone, Copy)]
 pub struct AtlasChanged {
     pub refused: u64,
     pub editor: AtlasEditor,

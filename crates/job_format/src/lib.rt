@@ -12,7 +12,7 @@ ghost use Rattle.job_format.specs.Fields.{all_in, fields_as, fields_of};
 use answers::{NumberAnswer, Refusal};
 
 // The bit map of a job and the values of its fields, each as wide as the field. A field whose bit does not stand has no bytes, and the value 0.
-#[derive(Drop)]
+#[derive(Clone, Copy)]
 pub struct Fields {
     pub map: u8,
     pub genus: u8,
@@ -23,14 +23,14 @@ pub struct Fields {
 }
 
 // The answer of reading the fields of a job.
-#[derive(Drop)]
+#[derive(Clone, Copy)]
 pub enum FieldsAnswer {
     Refused(Refusal),
     Given(Fields),
 }
 
 // What the format says of a bit: the number of bytes of its field, and whether the version has it.
-#[derive(Drop)]
+#[derive(Clone, Copy)]
 struct BitForm {
     width: usize,
     had: bool,

@@ -12,14 +12,14 @@ use job_format::{Fields, FieldsAnswer};
 use walk::{Walk, WalkAnswer};
 
 // What a job keeps: a walk, and the number of words written so far.
-#[derive(Drop)]
+#[derive(Clone, Copy)]
 pub struct Saved {
     pub walk: Walk,
     pub written: u64,
 }
 
 // The answer of reading a job.
-#[derive(Drop)]
+#[derive(Clone, Copy)]
 pub enum JobAnswer {
     Refused(Refusal),
     Given(Saved),

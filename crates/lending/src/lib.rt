@@ -6,7 +6,7 @@ ghost use Rattle.lending.specs.Lending.{up_to, put_all, with_each};
 
 // What was done with a lent list: the place after the words that were written; where a word found no room it is one past the end of the
 // list, and the word is the next.
-#[derive(Drop)]
+#[derive(Clone, Copy)]
 pub struct Filled {
     pub at: usize,
     pub next: u64,

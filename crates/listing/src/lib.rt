@@ -13,35 +13,35 @@ use answers::{NumberAnswer, Refusal};
 use walk::{BatchAnswer, Walk, WalkAnswer};
 
 // A listing under way: whether its header was written, and the walk over the semigroups whose lines were not.
-#[derive(Drop)]
+#[derive(Clone, Copy)]
 pub struct Listing {
     pub headed: bool,
     pub walk: Walk,
 }
 
 // The answer of the call that begins a listing.
-#[derive(Drop)]
+#[derive(Clone, Copy)]
 pub enum ListingAnswer {
     Refused(Refusal),
     Given(Listing),
 }
 
 // What is told of a page: how many bytes it has, and whether it is the last.
-#[derive(Drop)]
+#[derive(Clone, Copy)]
 pub struct Page {
     pub bytes: usize,
     pub finished: bool,
 }
 
 // The answer of a page.
-#[derive(Drop)]
+#[derive(Clone, Copy)]
 pub enum PageAnswer {
     Refused(Refusal),
     Given(Page),
 }
 
 // What a page gives back: the listing afterwards and the answer.
-#[derive(Drop)]
+#[derive(Clone, Copy)]
 pub struct Paged {
     pub listing: Listing,
     pub answer: PageAnswer,

@@ -13,7 +13,7 @@ ghost use Rattle.nodes.specs.RowCounts.{count_by_rows, grandchildren_at, great_c
 use answers::{Element, Index, Offset};
 
 // A semigroup under way: its word, its seed table and its conductor, which is that of source 000.
-#[derive(Drop)]
+#[derive(Clone, Copy)]
 pub struct Node {
     pub word: u64,
     pub table: u64,
@@ -240,7 +240,7 @@ impl Node {
 }
 
 // The lowest of some offsets, which are the bits of a number, and the others.
-#[derive(Drop)]
+#[derive(Clone, Copy)]
 pub struct Lowest {
     pub at: Offset,
     pub rest: u64,

@@ -8,7 +8,7 @@ ghost use Rattle.requests.specs.Request.{request_answered, request_of};
 use answers::Refusal;
 
 // The answer to an input: refused, or what it asks for, header lines alone or the listing of a genus.
-#[derive(Drop)]
+#[derive(Clone, Copy)]
 pub enum RequestAnswer {
     Refused(Refusal),
     Headers,

@@ -8,7 +8,7 @@ use mathlib.Core.Option as option
 use native.Mathlib.Omega.{arith}
 use native.Mathlib.Nat.{zero-add}
 use lib.ListN.{length, get_or}
-use Rattle.semigroups.specs.Lists.{none, run, keep, keep_if, every, joined, last_or, begins}
+use Rattle.semigroups.specs.Lists.{run, keep, keep_if, every, joined, last_or, begins}
 use Rattle.semigroups.specs.Sets.{sum_of_two}
 use Rattle.semigroups.specs.Words.{bit, set_of, gaps, genus, largest_gap, conductor, closed, child_word}
 use Rattle.semigroups.specs.Elements.{multiplicity, generator, right_generators}

@@ -15,7 +15,7 @@ ghost use Rattle.sums.specs.WordFrom.{word_from_of};
 use answers::{NumberAnswer, Refusal};
 
 // The gaps up to 64 as a word, and the number of gaps up to 127.
-#[derive(Drop)]
+#[derive(Clone, Copy)]
 struct Gaps {
     word: u64,
     count: u64,

@@ -13,21 +13,21 @@ use nodes::Node;
 use words::LookAnswer;
 
 // The answer of a call that gives a node.
-#[derive(Drop)]
+#[derive(Clone, Copy)]
 pub enum NodeAnswer {
     Refused(Refusal),
     Given(Node),
 }
 
 // A seed table, and the number of 1s in its row 0: of the generators not below the conductor.
-#[derive(Drop)]
+#[derive(Clone, Copy)]
 pub struct Table {
     pub table: u64,
     pub generators: u64,
 }
 
 // The answer of the seed table call.
-#[derive(Drop)]
+#[derive(Clone, Copy)]
 pub enum TableAnswer {
     Refused(Refusal),
     Given(Table),

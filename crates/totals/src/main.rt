@@ -4,21 +4,21 @@
 #![tactic(auto)]
 
 use answers::NumberAnswer;
-use libc::STDOUT_FILENO;
+use std::io;
 use walk::{BatchAnswer, Walk, WalkAnswer};
 
-fn text(bytes: &[u8]) {
-    io::write_all(STDOUT_FILENO, bytes);
+fn text(rt: &impl Print, bytes: &[u8]) -> io::Result<()> {
+    rt.write_all(bytes)
 }
 
 // A blank and a number.
-fn field(n: u64) {
-    text(b" ");
-    io::print_decimal(STDOUT_FILENO, n);
+fn field(rt: &impl Print, n: u64) -> io::Result<()> {
+    text(rt, b" ")?;
+    rt.print(n)
 }
 
-fn end() {
-    text(b"\n");
+fn end(rt: &impl Print) -> io::Result<()> {
+    text(rt, b"\n")
 }
 
 // ---- totals
@@ -59,35 +59,37 @@ fn odd_size(genus: u64) -> usize {
     (genus % 33) as usize * 124 + 3
 }
 
-fn totals() {
+fn totals(rt: &impl Print) -> io::Result<()> {
     for genus in 0..33u64 {
-        text(b"genus");
-        field(genus);
-        text(b": count");
+        text(rt, b"genus")?;
+        field(rt, genus)?;
+        text(rt, b": count")?;
         if let NumberAnswer::Given(n) = counts::count(0, genus) {
-            field(n);
-            text(b" walked");
-            field(walked(walk::fresh(genus), n, odd_size(genus)));
+            field(rt, n)?;
+            text(rt, b" walked")?;
+            field(rt, walked(walk::fresh(genus), n, odd_size(genus)))?;
         }
-        end();
+        end(rt)?;
     }
+    Ok(())
 }
 
 // Genus 20 by its windows of one multiplicity, from 0 to 22.
-fn windows() {
+fn windows(rt: &impl Print) -> io::Result<()> {
     for m in 0..23u8 {
-        text(b"genus 20 multiplicity");
-        field(m as u64);
-        text(b": walked");
-        field(walked(walk::fresh_in(20, m, m), 50000, 7));
-        end();
+        text(rt, b"genus 20 multiplicity")?;
+        field(rt, m as u64)?;
+        text(rt, b": walked")?;
+        field(rt, walked(walk::fresh_in(20, m, m), 50000, 7))?;
+        end(rt)?;
     }
+    Ok(())
 }
 
 // ---- a plain search of gap sets, compared word by word with a walk
 
 // A search under way: the walk that it is compared with, the closed gap sets found, and the places where the two differ.
-#[derive(Drop)]
+#[derive(Clone, Copy)]
 struct Progress {
     walk: Walk,
     found: u64,
@@ -165,11 +167,11 @@ fn search(word: u64, left: u64, x: u64, top: u64, s: Progress) -> Progress {
     search(word, left, x + 1, top, with)
 }
 
-fn searches() {
+fn searches(rt: &impl Print) -> io::Result<()> {
     for genus in 0..13u64 {
-        text(b"search of genus");
-        field(genus);
-        text(b":");
+        text(rt, b"search of genus")?;
+        field(rt, genus)?;
+        text(rt, b":")?;
         if let WalkAnswer::Given(first) = walk::fresh(genus) {
             let s = search(
                 0,
@@ -182,21 +184,22 @@ fn searches() {
                     different: 0,
                 },
             );
-            field(s.found);
-            text(b" found,");
-            field(s.different);
-            text(b" differ");
+            field(rt, s.found)?;
+            text(rt, b" found,")?;
+            field(rt, s.different)?;
+            text(rt, b" differ")?;
             let after = s.walk;
             if !after.finished {
-                text(b", unfinished");
+                text(rt, b", unfinished")?;
             }
         }
-        end();
+        end(rt)?;
     }
+    Ok(())
 }
 
-fn main() {
-    totals();
-    windows();
-    searches();
+fn main(rt: HostRuntime) -> io::Result<()> {
+    totals(&rt)?;
+    windows(&rt)?;
+    searches(&rt)
 }

@@ -11,7 +11,7 @@ use windows::FirstAnswer;
 use words::LookAnswer;
 
 // A genus, the next word, the lowest and the highest multiplicity that it lists, and a finished mark; when finished, the word is 0.
-#[derive(Drop)]
+#[derive(Clone, Copy)]
 pub struct Walk {
     pub genus: u64,
     pub word: u64,
@@ -21,28 +21,28 @@ pub struct Walk {
 }
 
 // The answer of the fresh and the start calls.
-#[derive(Drop)]
+#[derive(Clone, Copy)]
 pub enum WalkAnswer {
     Refused(Refusal),
     Given(Walk),
 }
 
 // What a batch reports: the number of words written, and whether none are left.
-#[derive(Drop)]
+#[derive(Clone, Copy)]
 pub struct Written {
     pub count: usize,
     pub finished: bool,
 }
 
 // The answer of a batch.
-#[derive(Drop)]
+#[derive(Clone, Copy)]
 pub enum BatchAnswer {
     Refused(Refusal),
     Given(Written),
 }
 
 // What a batch by value gives back: the walk afterwards and the answer.
-#[derive(Drop)]
+#[derive(Clone, Copy)]
 pub struct Moved {
     pub walk: Walk,
     pub answer: BatchAnswer,

@@ -10,14 +10,14 @@ use answers::Refusal;
 use words::LookAnswer;
 
 // The first word of a window, or 0 where the window holds none.
-#[derive(Drop)]
+#[derive(Clone, Copy)]
 pub struct First {
     pub word: u64,
     pub empty: bool,
 }
 
 // The answer of the call for the first word of a window.
-#[derive(Drop)]
+#[derive(Clone, Copy)]
 pub enum FirstAnswer {
     Refused(Refusal),
     Given(First),

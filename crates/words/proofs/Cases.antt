@@ -1,7 +1,6 @@
 -- Looks at known words, computed from the definitions. Assumes nothing.
 use mathlib.Core.Path.{◌≡◌, refl}
 use mathlib.Core.List.{[], ◌∷◌, map}
-use mathlib.Core.Option as option
 use lib.IntN.{pos, negsuc}
 use Rattle.semigroups.specs.Lists.{none, run, keep, keep_if, every, last_or}
 use Rattle.semigroups.specs.Sets.{sum_of_two}

@@ -1,10 +1,8 @@
 -- Which words are accepted, what a look at a word tells a caller, and what a call that lists numbers of a word does. Assumes nothing.
 use Prim.Native.Nat.{ℕ, ◌^◌, ◌≤◌, ◌<◌}
-use mathlib.Core.Path.{◌≡◌, refl, sym, ◌∙◌, ap, subst}
+use mathlib.Core.Path.{◌≡◌, sym, ◌∙◌, ap, subst}
 use mathlib.Core.Logic.{◌↔◌}
-use mathlib.Core.Bool.{Bool, true, false}
 use mathlib.Core.List.{List}
-use native.Mathlib.Omega.{arith}
 use lib.Dec.{leb}
 use lib.ListN.{length}
 use borrow.Author.Tests.{leb-true, le-leb, lt-leb}
@@ -17,7 +15,7 @@ use Rattle.semigroups.proofs.Elements.{set_multiplicity}
 use Rattle.semigroups.proofs.Reported.{reported_unique, largest_unique, reported_conductor_of, signed_largest_gap_of}
 use Rattle.semigroups.proofs.Closure.{closed_iff}
 use Rattle.answers.specs.Answers.{Answer, refused, given, ask, ListAnswer, unchanged, filled, into_lent, giving}
-use Rattle.answers.proofs.Answers.{two_refused, two_given, tests_given, tests_refused, lent_short, lent_enough, ask_given}
+use Rattle.answers.proofs.Answers.{two_refused, two_given, tests_given, tests_refused, lent_short, lent_enough}
 use Rattle.words.specs.Looks.{Accepted, ask_word, report_of, Tells, look_of, listed_into}
 use Rattle.words.specs.declared.Report.{Report}
 

@@ -12,7 +12,7 @@ ghost use Rattle.words.specs.Looks.{looked, report_of, look_of};
 use answers::{Found, Refusal};
 
 // What is told of a word: the conductor is the reported one, 0 where there is no gap, and the largest gap is then -1.
-#[derive(Drop)]
+#[derive(Clone, Copy)]
 pub struct Report {
     pub genus: u64,
     pub multiplicity: u64,
@@ -21,14 +21,14 @@ pub struct Report {
 }
 
 // The conductor of source 000 and the multiplicity of a word, accepted or not.
-#[derive(Drop)]
+#[derive(Clone, Copy)]
 pub struct ConductorAndMultiplicity {
     pub conductor: u64,
     pub multiplicity: u64,
 }
 
 // The answer to a look at a word.
-#[derive(Drop)]
+#[derive(Clone, Copy)]
 pub enum LookAnswer {
     Refused(Refusal),
     Given(Report),

@@ -1,11 +1,9 @@
 -- `answers::all_positive` meets its contract. The loop's invariant: the members from `i` on decide the test. Assumes nothing.
-use Prim.Native.Nat.{◌-◌}
-use mathlib.Core.Path.{◌≡◌, refl}
+use mathlib.Core.Path.{refl}
 use native.Mathlib.Omega.{arith}
 use lib.Dec.{ltb}
 use borrow.Author.Tests.{lt-ltb, le-ltb}
-use lib.ListN.{get_or, drop}
-use Rattle.semigroups.specs.Lists.{every}
+use lib.ListN.{get_or}
 use Rattle.semigroups.proofs.Lists.{tested_no, tested_yes, tested_all}
 use Rattle.answers.proofs.all_positive.Goals as goal
 
@@ -26,4 +24,3 @@ pub returns : goal.returns
 returns c =
     let end = c in
     tested_all (ltb 0) end.args.list.now end.loop-i.i end.loop-i.invariant (omega arith)
-

@@ -29,4 +29,3 @@ returns c =
     let word : ℕ = c.args.word in
     let fits = c.ranges.word.fits in
     (omega (arith, conductor_leading word fits), omega (arith, multiplicity_trailing word fits))
-

@@ -9,4 +9,3 @@ overflow_cast-result c = omega (arith, ones-le 64 c.args.word c.ranges.word.fits
 
 pub returns : goal.returns
 returns c = omega (arith, genus_ones c.args.word c.ranges.word.fits)
-

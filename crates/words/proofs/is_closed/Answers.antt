@@ -3,7 +3,6 @@
 use Prim.Native.Nat.{ℕ}
 use mathlib.Core.Path.{sym, ◌∙◌}
 use lib.Dec.{eqb}
-use borrow.Author.Rules.{rules}
 use borrow.Author.Tests.{eqb-true, eq-eqb}
 use Rattle.semigroups.specs.Words.{closed}
 use Rattle.semigroups.proofs.Booleans.{true_together}
@@ -16,4 +15,3 @@ returns c =
     let (all, back) = possible_all w c.ranges.word.fits in
     let given = c.possible_gaps.ensures in
     true_together (eqb c.possible_gaps.result w) (closed w) (λ e. all (sym given ∙ eqb-true _ w e)) (λ t. eq-eqb _ w (given ∙ back t))
-

@@ -3,8 +3,7 @@ use Prim.Native.Nat.{ℕ, ◌≤◌}
 use mathlib.Core.Path.{◌≡◌, sym, ap, ◌∙◌}
 use mathlib.Core.Bool.{true, false}
 use native.Mathlib.Omega.{arith}
-use borrow.Author.Rules.{rules}
-use borrow.Author.Tests.{lt-leb, le-leb, not-true, not-false}
+use borrow.Author.Tests.{lt-leb, le-leb}
 use Rattle.semigroups.specs.Words.{genus, closed}
 use Rattle.answers.specs.Answers.{given}
 use Rattle.words.specs.Looks.{ask_word, look_of}
@@ -32,4 +31,3 @@ returns c =
     let few : genus w ≤ 32 = omega (arith, at-genus.genus_of-genus.ensures) in
     let is-closed : closed w ≡ true = sym at_test.is_closed.ensures ∙ at_test.if-not-is_closed.false in
     simp (le-leb (genus w) 32 few, is-closed) (ap given c.tell.ensures)
-

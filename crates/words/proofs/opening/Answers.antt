@@ -7,7 +7,6 @@ use mathlib.Core.Option.{some}
 use native.Mathlib.Omega.{arith}
 use native.Mathlib.Nat.{mod-le}
 use lib.Count.{ones-le}
-use borrow.Author.Rules.{rules}
 use Rattle.semigroups.specs.Words.{genus, closed}
 use Rattle.semigroups.specs.GapSums.{least_gap_sum}
 use Rattle.semigroups.proofs.Booleans.{is_false}
@@ -40,4 +39,3 @@ returns c =
     let fails : closed w ≡ false = is_false (closed w) (λ t. c.if-left-word.false (given ∙ (possible_all w fits).1 t)) in
     let left : c.genus_of.result ≡ genus (w % 2 ^ (least_gap_sum w - 1)) = c.genus_of.ensures ∙ ap genus given in
     sym (opening_least w fits _ (least_gap_sum_is w fits fails) ∙ ap some (omega arith))
-

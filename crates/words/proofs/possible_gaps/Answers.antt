@@ -3,13 +3,12 @@
 use Prim.Native.Nat.{ℕ, ◌+◌, ◌*◌, ◌-◌, ◌/◌, ◌%◌, ◌^◌, ◌≤◌, ◌<◌}
 use mathlib.Core.Path.{◌≡◌, sym, ap, subst, ◌∙◌}
 use mathlib.Core.Bool.{not}
-use mathlib.Core.Logic.{inl, inr, ⊎_elim}
+use mathlib.Core.Logic.{inl, inr}
 use native.Mathlib.Omega.{arith}
 use lib.Count.{trailing_le, count_trailing_zeros}
 use lib.Pow.{pow_pos, shr-shr}
 use lib.Bits.{and_mask}
 use lib.Dec.{eqb}
-use borrow.Author.Rules.{rules}
 use Rattle.semigroups.specs.Words.{set_of}
 use Rattle.semigroups.proofs.Bits.{bit_first, one_shl}
 use Rattle.semigroups.proofs.Operations.{complement}
@@ -35,8 +34,8 @@ tried c =
     let fits = c.ranges.word.fits in
     let inv = c.loop-a.invariant in
     elim c.if-sums-ne0.branch [
-      then-sums-ne0 w ↦ subst (Tried _ _) (sym w.left-is) (tried_less _ fits _ _ inv w.if-sums-ne0.true).1
-    | else-sums-ne0 w ↦ subst (Tried _ _) (sym w.left-is) (tried_same _ fits _ _ inv w.if-sums-ne0.false)
+      | then-sums-ne0 w ↦ subst (Tried _ _) (sym w.left-is) (tried_less _ fits _ _ inv w.if-sums-ne0.true).1
+      | else-sums-ne0 w ↦ subst (Tried _ _) (sym w.left-is) (tried_same _ fits _ _ inv w.if-sums-ne0.false)
     ]
 
 -- the zeros below the next element
@@ -92,4 +91,3 @@ pub returns : goal.returns
 returns c =
     let loop = c.loop-a in
     tried_left _ c.ranges.word.fits _ _ loop.invariant loop.a loop.invariant.positive (omega arith) (inl (omega arith))
-

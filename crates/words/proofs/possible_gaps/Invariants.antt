@@ -1,17 +1,5 @@
-use Prim.Native.Nat.{ℕ, ◌+◌, ◌*◌, ◌-◌, ◌/◌, ◌%◌, ◌^◌, ◌≤◌, ◌<◌}
-use mathlib.Core.Path.{◌≡◌, sym, ap, subst, ◌∙◌}
-use mathlib.Core.Bool.{not}
-use mathlib.Core.Logic.{inl, inr, ⊎_elim}
-use native.Mathlib.Omega.{arith}
-use lib.Count.{trailing_le, count_trailing_zeros}
-use lib.Pow.{pow_pos, shr-shr}
-use lib.Bits.{and_mask}
-use lib.Dec.{eqb}
-use borrow.Author.Rules.{rules}
-use Rattle.semigroups.specs.Words.{set_of}
-use Rattle.semigroups.proofs.Bits.{bit_first, one_shl}
-use Rattle.semigroups.proofs.Operations.{complement}
-use Rattle.semigroups.proofs.GapSums.{sums_among, next_element, possible_none, Tried, tried_none, tried_less, tried_same, tried_left}
+use Prim.Native.Nat.{◌-◌}
+use Rattle.semigroups.proofs.GapSums.{Tried}
 use Rattle.words.proofs.possible_gaps.Given as goal
 
 abbrev pub invariant-loop-a : goal.invariant-loop-a

@@ -7,7 +7,6 @@ use native.Mathlib.Omega.{arith}
 use lib.IntN.{pos}
 use mir.Syntax.{w64}
 use mir.ValLaws.{to_z_pos}
-use borrow.Author.Rules.{rules}
 use Rattle.semigroups.specs.Words.{largest_gap, conductor}
 use Rattle.semigroups.proofs.Elements.{conductor_pos}
 use Rattle.semigroups.proofs.Operations.{conductor_le}
@@ -55,4 +54,3 @@ returns c =
       conductor = (known.0 ∙ sym (conductors_agree word fits nonzero)) i;
       largest_gap = (to_z_pos w64 _ (small (goal.at.returns c).After-struct_known-1) ∙ ap pos largest ∙ sym (largest_gaps_agree word fits nonzero)) i;
     }
-
