@@ -21,14 +21,14 @@ abbrev total : List ℕ → ℕ
 total l = sum_over (λ x. x) l
 
 -- the list, once the word of its gaps was looked at
-abbrev given-list : After-accepted_of_genus → List ℕ
-given-list c = c.args.list.now
+abbrev given_list : After-accepted_of_genus → List ℕ
+given_list c = c.args.list.now
 
 -- then the first two questions were answered yes, and what the third asks is what was asked of the word
-three-questions : (c : After-accepted_of_genus) → (every (ltb 0) (given-list c) ≡ true) × (leb (total (given-list c)) 32 ≡ true)
-    × (inequalities (given-list c) ≡ c.accepted_of_genus.result)
-three-questions c =
-    let l = given-list c in
+three_questions : (c : After-accepted_of_genus) → (every (ltb 0) (given_list c) ≡ true) × (leb (total (given_list c)) 32 ≡ true)
+    × (inequalities (given_list c) ≡ c.accepted_of_genus.result)
+three_questions c =
+    let l = given_list c in
     let few : total l ≤ 32 = omega (arith, c.sum_to_33-sum.ensures) in
     let sum : c.sum_to_33-sum.result ≡ total l = omega (arith, c.sum_to_33-sum.ensures) in (
       sym c.all_positive.ensures ∙ c.if-not-all_positive.false,
@@ -54,10 +54,10 @@ gap_word-word-requires c =
 
 pub returns-then-not-accepted_of_genus : goal.returns-then-not-accepted_of_genus
 unfolding word_from_coordinates_of
-returns-then-not-accepted_of_genus c = let (p, q, r) = three-questions (goal.at.returns-then-not-accepted_of_genus c).After-accepted_of_genus in simp (p, q, r ∙ c.if-not-accepted_of_genus.true)
+returns-then-not-accepted_of_genus c = let (p, q, r) = three_questions (goal.at.returns-then-not-accepted_of_genus c).After-accepted_of_genus in simp (p, q, r ∙ c.if-not-accepted_of_genus.true)
 
 pub returns : goal.returns
 unfolding word_from_coordinates_of
 returns c =
-    let (p, q, r) = three-questions (goal.at.returns c).After-accepted_of_genus in
+    let (p, q, r) = three_questions (goal.at.returns c).After-accepted_of_genus in
     simp (p, q, r ∙ c.if-not-accepted_of_genus.false) (ap given c.gap_word-word.ensures)
