@@ -26,9 +26,6 @@ returns-then-first-eq0 c = sym (no_generators _ (sym c.first_row-first.ensures â
 pub pairs_among-requires : goal.pairs_among-requires
 pairs_among-requires c = omega (arith, few-first (goal.at.pairs_among-requires c).After-generators)
 
-pub overflow_cast-result : goal.overflow_cast-result
-overflow_cast-result c = omega (arith, few-both (goal.at.overflow_cast-result c).After-second_row)
-
 pub overflow_add-result : goal.overflow_add-result
 overflow_add-result c =
     let few : c.generators.result â‰¤ 65 = omega (arith, few-first (goal.at.overflow_add-result c).After-generators) in

@@ -57,9 +57,6 @@ returns-then-first-eq0 c = sym (no_great_generators _ (sym c.first_row-first.ens
 pub triples_among-requires : goal.triples_among-requires
 triples_among-requires c = omega (arith, generators-few (goal.at.triples_among-requires c).After-generators-n)
 
-pub overflow_cast-others : goal.overflow_cast-others
-overflow_cast-others c = omega (arith, both-few (goal.at.overflow_cast-others c).After-triples_among)
-
 pub overflow_sub-others : goal.overflow_sub-others
 overflow_sub-others c = omega (arith, generators-few (goal.at.overflow_sub-others c).After-generators-n)
 
@@ -78,9 +75,6 @@ returns-then-a-gt63 c =
 pub overflow_sub-u : goal.overflow_sub-u
 overflow_sub-u c =
     omega (arith, c.multiplicity_of.ensures, c.second_element-a.ensures, second_above c.args.self.word (omega arith))
-
-pub overflow_cast-result : goal.overflow_cast-result
-overflow_cast-result c = omega (arith, last-few (goal.at.overflow_cast-result c).After-row_from)
 
 pub overflow_add-result : goal.overflow_add-result
 overflow_add-result c =
