@@ -3,10 +3,10 @@
 // which was computed apart from the plain definitions.
 #![tactic(auto)]
 
-use std::io;
 use answers::{NumberAnswer, Refusal};
 use editor::{ChangeAnswer, Changed, Editor};
 use jobs::JobAnswer;
+use std::io;
 use walk::Walk;
 
 fn text(rt: &impl Print, bytes: &[u8]) -> io::Result<()> {
@@ -146,26 +146,29 @@ fn show_change(rt: &impl Print, changed: Changed) -> io::Result<Editor> {
     first_bytes(rt, &places, length)?;
     let kept = after.answer;
     answer(rt, kept)?;
-    after
+    Ok(after)
 }
 
 // Adds a byte, and shows what there is then.
 fn show_add(rt: &impl Print, state: Editor, byte: u8) -> io::Result<Editor> {
     text(rt, b"add")?;
     field(rt, wide(byte))?;
-    show_change(rt, editor::add(state, byte))?
+    show_change(rt, editor::add(state, byte))
 }
 
 // Removes a byte, and shows what there is then.
 fn show_remove(rt: &impl Print, state: Editor, byte: u8) -> io::Result<Editor> {
     text(rt, b"remove")?;
     field(rt, wide(byte))?;
-    show_change(rt, editor::remove(state, byte))?
+    show_change(rt, editor::remove(state, byte))
 }
 
 // Adds four bytes, and shows what there is after each.
 fn show_four(rt: &impl Print, state: Editor, a: u8, b: u8, c: u8, d: u8) -> io::Result<Editor> {
-    show_add(rt, show_add(rt, show_add(rt, show_add(rt, state, a)?, b)?, c)?, d)?
+    let first = show_add(rt, state, a)?;
+    let second = show_add(rt, first, b)?;
+    let third = show_add(rt, second, c)?;
+    show_add(rt, third, d)
 }
 
 // The fields of a walk.
@@ -301,25 +304,42 @@ fn refused_coordinates(rt: &impl Print) -> io::Result<()> {
 
 // 6, 10, 6, of which the first 6 is removed; changes that are refused; then 55 and 15, with which there is a word.
 fn short_history(rt: &impl Print) -> io::Result<()> {
-    let two = show_remove(rt, show_add(rt, show_add(rt, show_add(rt, editor::empty(), 6)?, 10)?, 6)?, 6)?;
-    let same = show_remove(rt, show_remove(rt, show_add(rt, two, 0)?, 7)?, 0)?;
-    let word = show_add(rt, show_add(rt, same, 55)?, 15)?;
-    show_remove(rt, word, 15)
+    let mut state = editor::empty();
+    state = show_add(rt, state, 6)?;
+    state = show_add(rt, state, 10)?;
+    state = show_add(rt, state, 6)?;
+    state = show_remove(rt, state, 6)?;
+    state = show_add(rt, state, 0)?;
+    state = show_remove(rt, state, 7)?;
+    state = show_remove(rt, state, 0)?;
+    state = show_add(rt, state, 55)?;
+    state = show_add(rt, state, 15)?;
+    show_remove(rt, state, 15)?;
+    Ok(())
 }
 
 // Twenty additions, of which sixteen are held; an added 0 is still refused 7; then one is removed and another added.
 fn long_history(rt: &impl Print) -> io::Result<()> {
-    let eight = show_four(rt, show_four(rt, editor::empty(), 4, 8, 12, 16)?, 20, 24, 28, 32)?;
-    let full = show_four(rt, show_four(rt, eight, 36, 40, 44, 48)?, 52, 56, 60, 64)?;
-    let same = show_add(rt, show_four(rt, full, 68, 72, 76, 80)?, 0)?;
-    show_add(rt, show_remove(rt, show_add(rt, show_remove(rt, same, 4)?, 255)?, 255)?, 7)
+    let mut state = editor::empty();
+    state = show_four(rt, state, 4, 8, 12, 16)?;
+    state = show_four(rt, state, 20, 24, 28, 32)?;
+    state = show_four(rt, state, 36, 40, 44, 48)?;
+    state = show_four(rt, state, 52, 56, 60, 64)?;
+    state = show_four(rt, state, 68, 72, 76, 80)?;
+    state = show_add(rt, state, 0)?;
+    state = show_remove(rt, state, 4)?;
+    state = show_add(rt, state, 255)?;
+    state = show_remove(rt, state, 255)?;
+    show_add(rt, state, 7)?;
+    Ok(())
 }
 
 // States that are not right: a length of 17, a held 0, a place past the length that is not 0, an answer that the bytes do not give.
 fn wrong_states(rt: &impl Print) -> io::Result<()> {
     let ones = [1u8; 16];
     let zeros = [0u8; 16];
-    show_add(rt, 
+    show_add(
+        rt,
         Editor {
             bytes: ones,
             length: 17,
@@ -327,7 +347,8 @@ fn wrong_states(rt: &impl Print) -> io::Result<()> {
         },
         0,
     )?;
-    show_remove(rt, 
+    show_remove(
+        rt,
         Editor {
             bytes: zeros,
             length: 1,
@@ -335,7 +356,8 @@ fn wrong_states(rt: &impl Print) -> io::Result<()> {
         },
         0,
     )?;
-    show_remove(rt, 
+    show_remove(
+        rt,
         Editor {
             bytes: ones,
             length: 15,
@@ -343,7 +365,8 @@ fn wrong_states(rt: &impl Print) -> io::Result<()> {
         },
         1,
     )?;
-    show_add(rt, 
+    show_add(
+        rt,
         Editor {
             bytes: ones,
             length: 16,

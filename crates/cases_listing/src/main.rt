@@ -7,6 +7,7 @@ use answers::{NumberAnswer, Refusal};
 use listing::{ListingAnswer, PageAnswer};
 use requests::RequestAnswer;
 use std::io;
+use std::io::Read;
 
 fn text(rt: &impl Print, bytes: &[u8]) -> io::Result<()> {
     rt.write_all(bytes)
@@ -77,10 +78,10 @@ fn show_text(rt: &impl Print, input: &[u8]) -> io::Result<()> {
 }
 
 // What the program writes for standard input.
-fn show_input(rt: &impl Print) -> io::Result<()> {
-    let mut input = [0u8; 4];
-    let n = io::read_full(STDIN_FILENO, &mut input);
-    show_text(rt, &input[..n])
+fn show_input(rt: &(impl Print + Input + AllocGlobal)) -> io::Result<()> {
+    let mut input = Vec::new(rt.alloc());
+    rt.reader().take(4).read_to_end(&mut input)?;
+    show_text(rt, &input)
 }
 
 // How many places are lent to the call for header lines, its answer, and the first and the last place afterwards.

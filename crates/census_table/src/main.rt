@@ -1,54 +1,53 @@
 // The census program: reads a genus from standard input and writes a table of the numbers of its semigroups, with a line for each
-// multiplicity and a column for each conductor that occurs, or the line of a refusal, 10 for an empty input, too. The numbers are those that
-// the census call writes: at place 65 m + c that of multiplicity m, 0 to 33, and conductor c, 0 to 64.
+// multiplicity and a column for each conductor that occurs, or the line of a refusal, 10 for an empty input, too. Where it can't read or
+// write, it ends with the error. The numbers are those that the census call writes: at place 65 m + c that of multiplicity m, 0 to 33, and
+// conductor c, 0 to 64.
 #![tactic(auto)]
 
 use answers::{NumberAnswer, Refusal};
-use libc::{STDIN_FILENO, STDOUT_FILENO};
 use requests::RequestAnswer;
+use std::io;
+use std::io::Read;
 
 // Writes the line of a refusal.
-fn write_refusal(refusal: Refusal) {
+fn write_refusal(rt: &impl Print, refusal: Refusal) -> io::Result<()> {
     let mut line = [0u8; 11];
     let answer = listing::refusal_line(refusal, &mut line);
     match answer {
-        NumberAnswer::Refused(_) => {}
-        NumberAnswer::Given(n) => {
-            let end = n as usize;
-            io::write_all(STDOUT_FILENO, &line[..end]);
-        }
+        NumberAnswer::Refused(_) => Ok(()),
+        NumberAnswer::Given(n) => rt.write_all(&line[..n as usize]),
     }
 }
 
 // Writes bytes.
-fn write_text(bytes: &[u8]) {
-    io::write_all(STDOUT_FILENO, bytes);
+fn write_text(rt: &impl Print, bytes: &[u8]) -> io::Result<()> {
+    rt.write_all(bytes)
 }
 
 // Writes a number.
-fn write_number(n: u64) {
-    io::print_decimal(STDOUT_FILENO, n);
+fn write_number(rt: &impl Print, n: u64) -> io::Result<()> {
+    rt.print(n)
 }
 
 // Writes bytes right-aligned in a width.
-fn write_text_in(width: usize, bytes: &[u8]) {
+fn write_text_in(rt: &impl Print, width: usize, bytes: &[u8]) -> io::Result<()> {
     for _ in bytes.len()..width {
-        write_text(b" ");
+        write_text(rt, b" ")?;
     }
-    write_text(bytes);
+    write_text(rt, bytes)
 }
 
 // Writes a number right-aligned in a width.
-fn write_number_in(width: usize, n: u64) {
-    let mut digits = [0u8; 20];
-    let end = io::decimal(n, &mut digits);
-    write_text_in(width, &digits[..end]);
+fn write_number_in(rt: &impl Print, width: usize, n: u64) -> io::Result<()> {
+    print!(rt; "{n:>width$}")
 }
 
 // The number of digits of a number.
 fn width_of(n: u64) -> usize {
-    let mut digits = [0u8; 20];
-    io::decimal(n, &mut digits)
+    match n.checked_ilog10() {
+        Some(exponent) => exponent as usize + 1,
+        None => 1,
+    }
 }
 
 // The larger of two numbers.
@@ -107,83 +106,85 @@ fn column_width(table: &[u64; 2210], conductor: u64) -> usize {
 }
 
 // Writes a number of semigroups after two blanks, right-aligned in the width of its column: `.` for none.
-fn write_cell(width: usize, n: u64) {
-    write_text(b"  ");
+fn write_cell(rt: &impl Print, width: usize, n: u64) -> io::Result<()> {
+    write_text(rt, b"  ")?;
     if n == 0 {
-        write_text_in(width, b".");
+        write_text_in(rt, width, b".")?;
     } else {
-        write_number_in(width, n);
+        write_number_in(rt, width, n)?;
     }
+    Ok(())
 }
 
 // Writes the line of the heads: the conductors that occur.
-fn write_heads(table: &[u64; 2210]) {
-    write_text(b"m\\c");
+fn write_heads(rt: &impl Print, table: &[u64; 2210]) -> io::Result<()> {
+    write_text(rt, b"m\\c")?;
     for conductor in 0..65u64 {
         let width = column_width(table, conductor);
         if width != 0 {
-            write_text(b"  ");
-            write_number_in(width, conductor);
+            write_text(rt, b"  ")?;
+            write_number_in(rt, width, conductor)?;
         }
     }
-    write_text(b"\n");
+    write_text(rt, b"\n")
 }
 
 // Writes the line of a multiplicity.
-fn write_line(table: &[u64; 2210], multiplicity: u64) {
-    write_number_in(3, multiplicity);
+fn write_line(rt: &impl Print, table: &[u64; 2210], multiplicity: u64) -> io::Result<()> {
+    write_number_in(rt, 3, multiplicity)?;
     for conductor in 0..65u64 {
         let width = column_width(table, conductor);
         if width != 0 {
-            write_cell(width, number_at(table, multiplicity, conductor));
+            write_cell(rt, width, number_at(table, multiplicity, conductor))?;
         }
     }
-    write_text(b"\n");
+    write_text(rt, b"\n")
 }
 
 // Writes the lines of the multiplicities that occur.
-fn write_lines(table: &[u64; 2210]) {
+fn write_lines(rt: &impl Print, table: &[u64; 2210]) -> io::Result<()> {
     for multiplicity in 0..34u64 {
         if occurs(table, multiplicity) {
-            write_line(table, multiplicity);
+            write_line(rt, table, multiplicity)?;
         }
     }
+    Ok(())
 }
 
 // Writes the number of semigroups of a genus, the table, and the mean conductor: the sum of the conductors over that number.
-fn write_table(genus: u64, table: &[u64; 2210], sum: u64) {
+fn write_table(rt: &impl Print, genus: u64, table: &[u64; 2210], sum: u64) -> io::Result<()> {
     let n = total(table);
-    write_text(b"genus ");
-    write_number(genus);
-    write_text(b" count ");
-    write_number(n);
-    write_text(b"\n");
-    write_heads(table);
-    write_lines(table);
-    write_text(b"mean conductor ");
-    write_number(sum);
-    write_text(b"/");
-    write_number(n);
-    write_text(b"\n");
+    write_text(rt, b"genus ")?;
+    write_number(rt, genus)?;
+    write_text(rt, b" count ")?;
+    write_number(rt, n)?;
+    write_text(rt, b"\n")?;
+    write_heads(rt, table)?;
+    write_lines(rt, table)?;
+    write_text(rt, b"mean conductor ")?;
+    write_number(rt, sum)?;
+    write_text(rt, b"/")?;
+    write_number(rt, n)?;
+    write_text(rt, b"\n")
 }
 
 // Writes the census of a genus.
-fn write_census(genus: u64) {
+fn write_census(rt: &impl Print, genus: u64) -> io::Result<()> {
     let mut table = [0u64; 2210];
     let answer = census::census(genus, &mut table);
     match answer {
-        NumberAnswer::Refused(refusal) => write_refusal(refusal),
-        NumberAnswer::Given(sum) => write_table(genus, &table, sum),
+        NumberAnswer::Refused(refusal) => write_refusal(rt, refusal),
+        NumberAnswer::Given(sum) => write_table(rt, genus, &table, sum),
     }
 }
 
-fn main() {
-    let mut input = [0u8; 4];
-    let n = io::read_full(STDIN_FILENO, &mut input);
-    let answer = requests::request(&input[..n]);
+fn main(rt: HostRuntime) -> io::Result<()> {
+    let mut input = Vec::new(rt.alloc());
+    rt.reader().take(4).read_to_end(&mut input)?;
+    let answer = requests::request(&input);
     match answer {
-        RequestAnswer::Refused(refusal) => write_refusal(refusal),
-        RequestAnswer::Headers => write_refusal(Refusal::MalformedInput),
-        RequestAnswer::Listing(genus) => write_census(genus),
+        RequestAnswer::Refused(refusal) => write_refusal(&rt, refusal),
+        RequestAnswer::Headers => write_refusal(&rt, Refusal::MalformedInput),
+        RequestAnswer::Listing(genus) => write_census(&rt, genus),
     }
 }

@@ -1,57 +1,50 @@
 // The listing program: reads a genus from standard input and writes its listing; the header lines of genus 0 to 20 where the input is empty;
-// or the line of a refusal.
+// or the line of a refusal. Where it can't read or write, it ends with the error.
 #![tactic(auto)]
 
 use answers::{NumberAnswer, Refusal};
-use libc::{STDIN_FILENO, STDOUT_FILENO};
 use listing::{Listing, ListingAnswer, PageAnswer};
 use requests::RequestAnswer;
+use std::io;
+use std::io::Read;
 
 // Writes the line of a refusal.
-fn write_refusal(refusal: Refusal) {
+fn write_refusal(rt: &impl Print, refusal: Refusal) -> io::Result<()> {
     let mut line = [0u8; 11];
     let answer = listing::refusal_line(refusal, &mut line);
     match answer {
-        NumberAnswer::Refused(_) => {}
-        NumberAnswer::Given(n) => {
-            let end = n as usize;
-            io::write_all(STDOUT_FILENO, &line[..end]);
-        }
+        NumberAnswer::Refused(_) => Ok(()),
+        NumberAnswer::Given(n) => rt.write_all(&line[..n as usize]),
     }
 }
 
 // Writes the header lines of genus 0 to 20.
-fn write_headers() {
+fn write_headers(rt: &impl Print) -> io::Result<()> {
     let mut lines = [0u8; 756];
     let answer = listing::headers(&mut lines);
     match answer {
-        NumberAnswer::Refused(_) => {}
-        NumberAnswer::Given(n) => {
-            let end = n as usize;
-            io::write_all(STDOUT_FILENO, &lines[..end]);
-        }
+        NumberAnswer::Refused(_) => Ok(()),
+        NumberAnswer::Given(n) => rt.write_all(&lines[..n as usize]),
     }
 }
 
 // Writes the pages of a listing, until one is the last or is not written.
-fn write_pages(start: Listing) {
+fn write_pages(rt: &impl Print, start: Listing) -> io::Result<()> {
     let mut listing = start;
-    let mut out = io::large_buffer();
+    let mut out = [0u8; 65536];
     loop {
         let paged = listing::next_page(listing, &mut out);
         let answer = paged.answer;
         match answer {
             PageAnswer::Refused(_) => {
-                return;
+                return Ok(());
             }
             PageAnswer::Given(page) => {
                 let bytes = page.bytes;
                 let last = page.finished;
-                if !io::write_all(STDOUT_FILENO, &out[..bytes]) {
-                    return;
-                }
+                rt.write_all(&out[..bytes])?;
                 if last {
-                    return;
+                    return Ok(());
                 }
                 listing = paged.listing;
             }
@@ -60,21 +53,21 @@ fn write_pages(start: Listing) {
 }
 
 // Writes the listing of a genus.
-fn write_listing(genus: u64) {
+fn write_listing(rt: &impl Print, genus: u64) -> io::Result<()> {
     let answer = listing::fresh(genus);
     match answer {
-        ListingAnswer::Refused(refusal) => write_refusal(refusal),
-        ListingAnswer::Given(start) => write_pages(start),
+        ListingAnswer::Refused(refusal) => write_refusal(rt, refusal),
+        ListingAnswer::Given(start) => write_pages(rt, start),
     }
 }
 
-fn main() {
-    let mut input = [0u8; 4];
-    let n = io::read_full(STDIN_FILENO, &mut input);
-    let answer = requests::request(&input[..n]);
+fn main(rt: HostRuntime) -> io::Result<()> {
+    let mut input = Vec::new(rt.alloc());
+    rt.reader().take(4).read_to_end(&mut input)?;
+    let answer = requests::request(&input);
     match answer {
-        RequestAnswer::Refused(refusal) => write_refusal(refusal),
-        RequestAnswer::Headers => write_headers(),
-        RequestAnswer::Listing(genus) => write_listing(genus),
+        RequestAnswer::Refused(refusal) => write_refusal(&rt, refusal),
+        RequestAnswer::Headers => write_headers(&rt),
+        RequestAnswer::Listing(genus) => write_listing(&rt, genus),
     }
 }

@@ -6,7 +6,7 @@ use native.Mathlib.Omega.{arith}
 use native.Mathlib.Decide.{dec_lt}
 use lib.Dec.{leb}
 use borrow.Author.Tests.{le-leb, lt-leb}
-use Rattle.semigroups.specs.Words.{bit, genus, conductor, closed, child_word}
+use Rattle.semigroups.specs.Words.{bit, genus, conductor, child_word}
 use Rattle.semigroups.specs.Elements.{generator}
 use Rattle.semigroups.proofs.Elements.{conductor_pos, mem_right_generators}
 use Rattle.answers.specs.Answers.{refused, given, ask}

@@ -2,7 +2,6 @@
 use Prim.Native.Nat.{ℕ, ◌+◌, ◌-◌, ◌^◌, ◌≤◌}
 use mathlib.Core.Path.{◌≡◌, sym, ap, ◌∙◌}
 use native.Mathlib.Omega.{arith}
-use Rattle.semigroups.specs.Words.{closed}
 use Rattle.semigroups.proofs.GenusList.{word_nonzero}
 use Rattle.semigroups.proofs.First.{first_of_genus, first_conductor, first_multiplicity}
 use Rattle.seeds.specs.Grandchildren.{pairs}

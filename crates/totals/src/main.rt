@@ -28,7 +28,7 @@ fn walked_into(first: Walk, most: u64, list: &mut [u64]) -> u64 {
     let mut at = first;
     let mut total: u64 = 0;
     for _ in 0..most {
-        let moved = walk::step(at, list);
+        let moved = walk::batch_from(at.genus, at.word, at.lowest, at.highest, at.finished, list);
         let report = moved.answer;
         let BatchAnswer::Given(written) = report else {
             return total;

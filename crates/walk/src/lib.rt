@@ -175,3 +175,25 @@ pub fn batch(walk: &mut Walk, out: &mut [u64]) -> BatchAnswer
     *walk = moved.walk;
     moved.answer
 }
+
+// A batch with plain parameters, the fields of the walk.
+pub fn batch_from(
+    genus: u64,
+    word: u64,
+    lowest: u8,
+    highest: u8,
+    finished: bool,
+    out: &mut [u64],
+) -> Moved
+    ensures { ended result.answer result.walk out.new ≡ batch_of (record { genus = genus; word = word; lowest = lowest; highest = highest; finished = finished }) out.old }
+{
+    let mut walk = Walk {
+        genus,
+        word,
+        lowest,
+        highest,
+        finished,
+    };
+    let answer = batch(&mut walk, out);
+    Moved { walk, answer }
+}
