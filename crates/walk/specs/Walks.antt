@@ -1,13 +1,13 @@
 -- What each call of the walk answers, where the walk stands after it and what the lent list then holds, for all arguments. They come
 -- from the window list, which has the word of every numerical semigroup of a genus with a multiplicity between two bounds once, in list
 -- order, and nothing else: `windows`, `Windows`. Assumes nothing: these are definitions.
-use Rattle.std.specs.Prelude.{ℕ, min, Bool, false, cond, List, [], ◌++◌, leb, eqb, length, take, drop, get_or}
+use Rattle.std.specs.Prelude.{ℕ, min, Bool, false, cond, ◌&&◌, List, [], ◌++◌, leb, eqb, length, take, drop, get_or}
 use Rattle.semigroups.specs.Lists.{none, on_from}
-use Rattle.semigroups.specs.Words.{genus}
+use Rattle.semigroups.specs.Words.{genus, closed}
 use Rattle.semigroups.specs.Elements.{multiplicity}
 use Rattle.answers.specs.Answers.{Answer, refused, given, ask}
 use Rattle.words.specs.Looks.{ask_word}
-use Rattle.windows.specs.Windows.{within, holds, window_list}
+use Rattle.windows.specs.Windows.{within, window_list}
 use Rattle.walk.specs.declared.Walk.{Walk}
 use Rattle.walk.specs.declared.Written.{Written}
 use Rattle.walk.specs.declared.BatchAnswer.{BatchAnswer}
@@ -27,7 +27,7 @@ standing g lo hi l = record { genus = g; word = get_or l 0 0; lowest = lo; highe
 unfoldable pub in_order : Walk → Bool
 in_order w =
     cond w.finished (eqb w.word 0)
-    (holds w.genus w.lowest w.highest w.word)
+    (leb (genus w.word) 32 && closed w.word && eqb (genus w.word) w.genus && within w.lowest w.highest (multiplicity w.word))
 
 -- questions 3 and 4: is the genus at most 32, and is the walk in order
 abbrev pub ask_walk : {A : Type 0} → (ℕ → A) → Walk → A → A
