@@ -1,4 +1,3 @@
 pub mod Walks
 pub mod Batches
 pub mod FreshWalks
-pub mod Values

@@ -11,7 +11,7 @@ use native.Mathlib.Omega.{arith}
 use native.Mathlib.Nat.{le_of_eq, le_trans, zero-min}
 use borrow.Author.Tests.{le-leb, lt-leb, eq-eqb, eqb-true}
 use Rattle.semigroups.specs.Lists.{none, on_from, Ordered}
-use Rattle.semigroups.specs.Words.{genus, closed}
+use Rattle.semigroups.specs.Words.{genus}
 use Rattle.semigroups.specs.Elements.{multiplicity}
 use Rattle.semigroups.specs.GenusList.{genus_list, Earlier}
 use Rattle.semigroups.proofs.Lists.{none_iff, no_length, mem_middle, mem_split, on_from_split, on_from_end}
