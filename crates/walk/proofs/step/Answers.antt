@@ -11,8 +11,7 @@ use Rattle.walk.proofs.step.Goals.{After-write_from-answer, Joined-more, then-mo
 
 -- the ending of the batch, by the answer of the call that wrote
 ending : (c : After-write_from-answer) {a : FilledAnswer} → c.write_from-answer.result ≡ a →
-    let start = c in
-    written_ending start.args.walk (filled_answered a, c.write_from-answer.new.out) ≡ batch_of start.args.walk start.args.out.now
+    written_ending c.args.walk (filled_answered a, c.write_from-answer.new.out) ≡ batch_of c.args.walk c.args.out.now
 ending c e =
     let w : Walk = c.args.walk in
     ap (λ (a : FilledAnswer). written_ending w (filled_answered a, c.write_from-answer.new.out)) (sym e)
@@ -31,10 +30,10 @@ pub returns-then-genus-gt32 : goal.returns-then-genus-gt32
 returns-then-genus-gt32 c = sym (batch_genus _ _ c.if-genus-gt32.true)
 
 pub returns-then-walk-ne0 : goal.returns-then-walk-ne0
-returns-then-walk-ne0 c = let at-finished = c in sym (batch_no_word _ _ at-finished.if-genus-gt32.false at-finished.if-walk.true c.if-walk-ne0.true)
+returns-then-walk-ne0 c = sym (batch_no_word _ _ c.if-genus-gt32.false c.if-walk.true c.if-walk-ne0.true)
 
 pub returns-then-walk : goal.returns-then-walk
-returns-then-walk c = let at-finished = c in sym (batch_finished _ _ at-finished.if-genus-gt32.false at-finished.if-walk.true c.if-walk-ne0.false)
+returns-then-walk c = sym (batch_finished _ _ c.if-genus-gt32.false c.if-walk.true c.if-walk-ne0.false)
 
 pub returns-in-Refused : goal.returns-in-Refused
 returns-in-Refused c = ending (goal.at.returns-in-Refused c).After-write_from-answer c.in-Refused.is
