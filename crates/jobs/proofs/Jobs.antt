@@ -45,23 +45,23 @@ fresh_saved g lo hi n =
     by_value (leb g 32) (λ e. rw (e, standing_in_order g lo hi [] (leb-true g 32 e) (window_list g lo hi) refl))
     (λ e. rw e)
 
-module _ (m : ℕ) (value : ℕ → ℕ) (lo hi : ℕ) (lowest-said : lo ≡ value_or 1 m value 1) (highest-said : hi ≡ value_or 33 m value 2) where
+module _ (m : ℕ) (value : ℕ → ℕ) (g lo hi : ℕ) (genus_said : g ≡ value 0) (lowest-said : lo ≡ value_or 1 m value 1) (highest-said : hi ≡ value_or 33 m value 2) where
   -- with the finished mark, a finished walk
-  pub said_finished : bit m 5 ≡ true → record { genus = value 0; word = 0; lowest = lo; highest = hi; finished = true } ≡ walk_said m value
+  pub said_finished : bit m 5 ≡ true → record { genus = g; word = 0; lowest = lo; highest = hi; finished = true } ≡ walk_said m value
   unfolding walk_said placed_by standing none
-  said_finished e = rw e (λ i. record { genus = value 0; word = 0; lowest = lowest-said i; highest = highest-said i; finished = true })
+  said_finished e = rw e (λ i. record { genus = genus_said i; word = 0; lowest = lowest-said i; highest = highest-said i; finished = true })
 
   -- with a next word, a walk on it
-  pub said_on_word : bit m 5 ≡ false → bit m 3 ≡ true
-      → record { genus = value 0; word = value 3; lowest = lo; highest = hi; finished = false } ≡ walk_said m value
+  pub said_on_word : (x : ℕ) → x ≡ value 3 → bit m 5 ≡ false → bit m 3 ≡ true
+      → record { genus = g; word = x; lowest = lo; highest = hi; finished = false } ≡ walk_said m value
   unfolding walk_said placed_by
-  said_on_word e f = rw (e, f) (λ i. record { genus = value 0; word = value 3; lowest = lowest-said i; highest = highest-said i; finished = false })
+  said_on_word x word-said e f = rw (e, f) (λ i. record { genus = genus_said i; word = word-said i; lowest = lowest-said i; highest = highest-said i; finished = false })
 
   -- with neither, the fresh walk, which is in order
-  pub said_fresh : (n : ℕ) → bit m 5 ≡ false → bit m 3 ≡ false → with_written n (fresh_in_of (value 0) lo hi) ≡ saved_of (walk_said m value) n
+  pub said_fresh : (n : ℕ) → bit m 5 ≡ false → bit m 3 ≡ false → with_written n (fresh_in_of g lo hi) ≡ saved_of (walk_said m value) n
   unfolding walk_said placed_by
   said_fresh n e f =
-      ap (λ (a : Answer Walk). with_written n a) (λ i. fresh_in_of (value 0) (lowest-said i) (highest-said i))
+      ap (λ (a : Answer Walk). with_written n a) (λ i. fresh_in_of (genus_said i) (lowest-said i) (highest-said i))
       ∙ fresh_saved (value 0) (value_or 1 m value 1) (value_or 33 m value 2) n
       ∙ rw (e, f)
 

@@ -42,7 +42,7 @@ returns c =
     let f : Fields = Fields-at at_mark.before in
     let (lowest, highest, written) = told at_mark.before in
     c.answer-for.ensures
-    ∙ ap₂ saved_of (said_finished f.map (value_in f) _ _ lowest highest (sym at_mark.stands.ensures ∙ c.before.if1.true)) written
+    ∙ ap₂ saved_of (said_finished f.map (value_in f) _ _ _ refl lowest highest (sym at_mark.stands.ensures ∙ c.before.if1.true)) written
 
 -- without the finished mark
 unmarked : (c : tie.After-stands2) → bit (Fields-at c.before.before.before).map 5 ≡ false
@@ -56,7 +56,7 @@ returns-2 c =
     let f : Fields = Fields-at at_fields in
     let (lowest, highest, written) = told at_fields in
     c.answer-for2.ensures
-    ∙ ap₂ saved_of (said_on_word f.map (value_in f) _ _ lowest highest (unmarked at-word) (sym at-word.stands2.ensures ∙ c.before.if2.true)) written
+    ∙ ap₂ saved_of (said_on_word f.map (value_in f) _ _ _ refl lowest highest _ refl (unmarked at-word) (sym at-word.stands2.ensures ∙ c.before.if2.true)) written
 
 -- what the call for a fresh walk gives is what the fields say
 fresh : (c : tie.After-fresh-in) → let at_fields = c.before.before.before.before.before in let f : Fields = Fields-at at_fields in
@@ -68,7 +68,7 @@ fresh c =
     let f : Fields = Fields-at at_fields in
     let (lowest, highest, written) = told at_fields in
     ap (λ (a : Answer Walk). with_written at_fields.value-or3.result a) c.Fresh-in.ensures
-    ∙ said_fresh f.map (value_in f) _ _ lowest highest _ (unmarked at-word) (sym at-word.stands2.ensures ∙ c.before.if2.false)
+    ∙ said_fresh f.map (value_in f) _ _ _ refl lowest highest _ (unmarked at-word) (sym at-word.stands2.ensures ∙ c.before.if2.false)
     ∙ ap (saved_of (walk_said f.map (value_in f))) written
 
 returns-3 : tie.Need-returns-3
