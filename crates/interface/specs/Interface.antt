@@ -1,11 +1,7 @@
 -- Answers as the structs that C callers get: of a call that can be refused the number of the refusal first, 0 for an answer, then the values,
 -- 0 where refused. Assumes nothing: these are definitions.
-use Prim.Native.Nat.{ℕ}
-use mathlib.Core.Bool.{Bool, true, false, cond, ◌||◌}
-use mathlib.Core.List.{List, [], ◌∷◌}
-use mathlib.Core.Option.{Option, none, some}
-use lib.Dec.{eqb, leb}
-use lib.IntN.{pos}
+use Rattle.std.specs.Prelude.{ℕ, Bool, true, false, cond, ◌||◌, List, [], ◌∷◌, eqb, leb, pos}
+use Rattle.std.proofs.Math.Option.{Option, none, some}
 use Rattle.answers.specs.Answers.{Answer, refused, given, ask, ListAnswer, unchanged}
 use Rattle.words.specs.declared.Report.{Report}
 use Rattle.tables.specs.declared.Table.{Table}

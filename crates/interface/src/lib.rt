@@ -3,7 +3,7 @@
 // refused.
 #![tactic(auto)]
 
-ghost use mathlib.Core.Path.{◌≡◌};
+ghost use Rattle.std.specs.Prelude.{◌≡◌};
 ghost use Rattle.answers.specs.Answers.{answered, sought, sought_answered, number_of};
 ghost use Rattle.words.specs.Looks.{looked};
 ghost use Rattle.tables.specs.Answers.{tabled};
