@@ -35,7 +35,7 @@ lent_each w (lent ∷ lents) = ap (λ (l : List (List ℕ)). lent ∷ l) (lent_e
 pub lengths_lent : (w : Walk) (lents : List (List ℕ)) → lengths (batches atlas w lents) ≡ sum_over length lents
 unfolding batches lengths sum_over
 lengths_lent w [] = refl
-lengths_lent w (lent ∷ lents) = ap (λ (n : ℕ). length lent + n) (lengths_lent _ lents)
+lengths_lent w (lent ∷ lents) = ap (λ (n : ℕ). length lent + n) (lengths_lent (call atlas w lent).ending.walk lents)
 
 -- ---- one batch, of a walk that has r still to give
 

@@ -112,6 +112,15 @@ pub fn start(word: u64) -> WalkAnswer
     start_in(word, 1, 33)
 }
 
+// A batch of a walk that is out of order: refused 4, with the walk as it was.
+fn out_of_order(walk: Walk) -> Moved
+    ensures walk { result.walk ≡ walk }
+    ensures answer { result.answer ≡ BatchAnswer.Refused Refusal.WalkOutOfOrder }
+{
+    let answer = BatchAnswer::Refused(Refusal::WalkOutOfOrder);
+    Moved { walk, answer }
+}
+
 // A batch by value: fills the lent list from the front with the words from the walk's on, as far as the list or the semigroups last, and
 // gives the walk that stands on the next. Refused above genus 32 and where the walk is out of order: then nothing is written, and the
 // walk is as it was.
@@ -127,10 +136,7 @@ pub fn step(walk: Walk, out: &mut [u64]) -> Moved
     }
     if walk.finished {
         if walk.word != 0 {
-            return Moved {
-                walk,
-                answer: BatchAnswer::Refused(Refusal::WalkOutOfOrder),
-            };
+            return out_of_order(walk);
         }
         return Moved {
             walk,
@@ -142,10 +148,7 @@ pub fn step(walk: Walk, out: &mut [u64]) -> Moved
     }
     let answer = descendants::write_from(genus, walk.word, walk.lowest, walk.highest, out);
     match answer {
-        FilledAnswer::Refused(r) => Moved {
-            walk,
-            answer: BatchAnswer::Refused(r),
-        },
+        FilledAnswer::Refused(_) => out_of_order(walk),
         FilledAnswer::Given(filled) => {
             let more = out.len() < filled.at;
             let count = if more { out.len() } else { filled.at };

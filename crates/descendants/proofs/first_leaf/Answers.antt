@@ -9,7 +9,7 @@ use Rattle.descendants.proofs.first_leaf.Goals as goal
 use Rattle.descendants.proofs.first_leaf.Goals.{After-first_row}
 
 -- the node's first row
-row : (c : After-first_row) → let start = c in Row start.args.left start.args.n c.first_row.result
+row : (c : After-first_row) → Row c.args.left c.args.n c.first_row.result
 row c = row_branches _ _ c.if-left-eq0.false c.requires c.first_row.ensures
 
 -- no level below the node: its word

@@ -1,5 +1,4 @@
--- `lending::put_each` meets its contract. What is left to put makes, with what was put, all that there is to put, and for what is left there
--- is room. Assumes nothing.
+-- `lending::put_each` meets its contract. Assumes nothing.
 use Rattle.std.proofs.Common.{◌+◌, ◌≤◌, length, sym, refl, ap, ◌∙◌, arith, length-set}
 use Rattle.semigroups.specs.Positions.{positions}
 use Rattle.semigroups.proofs.StandingBits.{positions_le}

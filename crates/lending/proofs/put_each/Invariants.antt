@@ -1,3 +1,4 @@
+-- The loop's invariant: what is left to put makes, with what was put, all that there is to put, and for what is left there is room.
 use Rattle.std.proofs.Common.{◌≡◌, ◌+◌, ◌^◌, ◌<◌, ◌≤◌, length}
 use Rattle.semigroups.specs.Positions.{positions}
 use Rattle.lending.specs.Lending.{up_to, put_all, with_each}

@@ -1,4 +1,4 @@
--- `tables::lowest_of` meets its contract: the lowest standing bit is found by the clear bits below it, and cleared by the number before,
+-- `nodes::lowest_of` meets its contract: the lowest standing bit is found by the clear bits below it, and cleared by the number before,
 -- which has the others and not it. Assumes nothing.
 use Rattle.std.proofs.Common.{◌<◌, sym, refl, arith}
 use lib.Count.{trailing_le}

@@ -1,4 +1,4 @@
--- `tables::pairs_among` meets its contract. Assumes nothing.
+-- `nodes::pairs_among` meets its contract. Assumes nothing.
 use Rattle.std.proofs.Common.{arith}
 use Rattle.seeds.proofs.Pairs.{square_le, pairs_computed, pairs_bound}
 use Rattle.nodes.proofs.pairs_among.Goals as goal

@@ -1,4 +1,4 @@
--- `tables::rake` meets its contract. The loop's invariant: `moved` is the word moved up by 1 to `done`, all anded. Assumes nothing.
+-- `nodes::rake` meets its contract. Assumes nothing.
 use Rattle.std.proofs.Common.{◌-◌, ◌^◌, refl, le_refl, arith}
 use Rattle.seeds.specs.Child.{raked}
 use Rattle.seeds.proofs.Raking.{anded_first, raked_anded, raked_twice}

@@ -1,3 +1,4 @@
+-- The loop's invariant: `moved` is the word moved up by 1 to `done`, all anded.
 use Rattle.std.proofs.Common.{◌≡◌, ◌-◌, ◌≤◌}
 use Rattle.seeds.proofs.Raking.{anded}
 use Rattle.nodes.proofs.rake.Given as goal

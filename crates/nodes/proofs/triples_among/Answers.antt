@@ -1,4 +1,4 @@
--- `tables::triples_among` meets its contract. Assumes nothing.
+-- `nodes::triples_among` meets its contract. Assumes nothing.
 use Rattle.std.proofs.Common.{arith}
 use Rattle.seeds.proofs.Triples.{triples_computed, triples_bound, pairs_times}
 use Rattle.nodes.proofs.triples_among.Goals as goal

@@ -16,6 +16,5 @@ returns-in-Refused c = sym (word_refused _ (node_of _) refused _ _ (sym c.node_o
 pub returns-in-Given : goal.returns-in-Given
 unfolding grandchildren_of node_answer
 returns-in-Given c =
-    let at = c in
-    let (h, same) = word_given _ (node_of _) _ (sym at.node_of-answer.ensures ∙ ap noded at.in-Given.is) in
+    let (h, same) = word_given _ (node_of _) _ (sym c.node_of-answer.ensures ∙ ap noded c.in-Given.is) in
     ap given (c.grandchildren.ensures ∙ ap grandchildren_at same ∙ grandchildren_at_is _ (omega arith) h) ∙ sym (asked refused _ _ h)

@@ -1,5 +1,4 @@
--- `tables::reached` meets its contract. The loop's invariant: the node is on the way to the word; the measure: how many gaps it has yet
--- to go. Assumes nothing.
+-- `tables::reached` meets its contract. Assumes nothing.
 use Prim.Native.Nat.{◌-◌, ◌<◌}
 use mathlib.Core.Path.{sym, ap, ◌∙◌, subst}
 use native.Mathlib.Omega.{arith}
@@ -13,9 +12,8 @@ use Rattle.tables.proofs.reached.Goals.{After-child-n}
 goes_on : (c : After-child-n) → let u = c.args.word in
     OnTheWay u c.child-n.result × (genus u - genus c.child-n.result.word < genus u - genus c.loop-n.n.word)
 goes_on c =
-    let start = c in
     let n = c.loop-n.n in
-    way_goes_on start.args.word (omega arith) start.requires n c.child-n.result c.loop-n.invariant
+    way_goes_on c.args.word (omega arith) c.requires n c.child-n.result c.loop-n.invariant
     c.loop-n-test.true (c.child-n.ensures ∙ ap (child_node n) c.next_offset.ensures)
 
 pub loop-n-init : goal.loop-n-init

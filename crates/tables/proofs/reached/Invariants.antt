@@ -1,3 +1,4 @@
+-- The loop's invariant: the node is on the way to the word; the measure: how many gaps it has yet to go.
 use Prim.Native.Nat.{◌-◌}
 use Rattle.semigroups.specs.Words.{genus}
 use Rattle.tables.proofs.Way.{OnTheWay}

@@ -21,30 +21,26 @@ tested c b e = ap (λ (r : ℕ). bit r c.of_element-d.result.0) (sym c.first_row
 
 pub returns-then-element-c : goal.returns-then-element-c
 returns-then-element-c c =
-    let start = c in
-    sym (refused_below _ _ start.requires (omega (arith, positive_conductor start.args.n start.args.element.0 start.requires)))
+    sym (refused_below _ _ c.requires (omega (arith, positive_conductor c.args.n c.args.element.0 c.requires)))
 
 pub returns-then-d-gt63 : goal.returns-then-d-gt63
 unfolding first_row
 returns-then-d-gt63 c =
-    let at = c in
-    let n = at.args.n in
-    sym (refused_there n _ at.requires at.of_element-d.result.0 at.of_element-d.ensures
-    (bit_past (first_row n) 64 at.of_element-d.result.0 (lt_of_le_of_lt (mod-le n.table _) (omega arith)) c.if-d-gt63.true))
+    let n = c.args.n in
+    sym (refused_there n _ c.requires c.of_element-d.result.0 c.of_element-d.ensures
+    (bit_past (first_row n) 64 c.of_element-d.result.0 (lt_of_le_of_lt (mod-le n.table _) (omega arith)) c.if-d-gt63.true))
 
 pub returns-then-first_row-d-ne1 : goal.returns-then-first_row-d-ne1
 returns-then-first_row-d-ne1 c =
-    let at = c in
     let row = (goal.at.returns-then-first_row-d-ne1 c).After-first_row in
-    let d = at.of_element-d.result.0 in
-    sym (refused_there _ _ at.requires d at.of_element-d.ensures
+    let d = c.of_element-d.result.0 in
+    sym (refused_there _ _ c.requires d c.of_element-d.ensures
     (tested row false (sym (bit_test row.first_row.result d) ∙ ne_eqb _ 1 c.if-first_row-d-ne1.true)))
 
 pub returns : goal.returns
 returns c =
-    let at = c in
     let row = (goal.at.returns c).After-first_row in
-    let d = at.of_element-d.result.0 in
+    let d = c.of_element-d.result.0 in
     ap (λ (k : Node). given k.word) c.child-next.ensures
-    ∙ sym (given_there _ _ at.requires d at.of_element-d.ensures
+    ∙ sym (given_there _ _ c.requires d c.of_element-d.ensures
     (omega arith) (tested row true (sym (bit_test row.first_row.result d) ∙ eq-eqb _ 1 c.if-first_row-d-ne1.false)))

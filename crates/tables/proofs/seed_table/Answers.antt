@@ -20,8 +20,7 @@ returns-in-Refused c = sym (word_refused _ (node_of _) refused _ _ (sym c.node_o
 pub returns-in-Given : goal.returns-in-Given
 unfolding node_of node_answer
 returns-in-Given c =
-    let at = c in
-    let (h, same) = word_given _ (node_of _) _ (sym at.node_of-answer.ensures ∙ ap noded at.in-Given.is) in
+    let (h, same) = word_given _ (node_of _) _ (sym c.node_of-answer.ensures ∙ ap noded c.in-Given.is) in
     ap₂ (λ (s n : ℕ). given record { table = s; generators = n }) (ap (λ (n : Node). n.table) same)
     (c.generators.ensures ∙ ap (λ (n : Node). ones (first_row n)) same ∙ sym (first_row_count _ (omega arith) h.closed h.few) ∙ sym (first_row_ones_count _ (omega arith)))
     ∙ sym (table_given_is _ h)

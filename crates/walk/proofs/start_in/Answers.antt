@@ -22,8 +22,7 @@ unfolding report_of
 returns-then-not-is_within c =
     let (accepted, same) = told (goal.at.returns-then-not-is_within c).In-Given in
     let inside = c.is_within.ensures in
-    let start = c in
-    sym (start_in_refused _ accepted _ _ (ap (λ (r : Report). within start.args.lowest start.args.highest r.multiplicity) (sym same) ∙ sym inside ∙ c.if-not-is_within.true))
+    sym (start_in_refused _ accepted _ _ (ap (λ (r : Report). within c.args.lowest c.args.highest r.multiplicity) (sym same) ∙ sym inside ∙ c.if-not-is_within.true))
 
 pub returns-in-Refused : goal.returns-in-Refused
 unfolding start_in_of
@@ -33,7 +32,6 @@ pub returns-else-not-is_within : goal.returns-else-not-is_within
 unfolding report_of
 returns-else-not-is_within c =
     let (accepted, same) = told (goal.at.returns-else-not-is_within c).In-Given in
-    let start = c in
-    ap (λ (r : Report). given record { genus = r.genus; word = start.args.word; lowest = start.args.lowest; highest = start.args.highest; finished = false }) same
+    ap (λ (r : Report). given record { genus = r.genus; word = c.args.word; lowest = c.args.lowest; highest = c.args.highest; finished = false }) same
     ∙ sym (start_in_answers _ accepted _ _
-    (ap (λ (r : Report). within start.args.lowest start.args.highest r.multiplicity) (sym same) ∙ sym c.is_within.ensures ∙ c.if-not-is_within.false))
+    (ap (λ (r : Report). within c.args.lowest c.args.highest r.multiplicity) (sym same) ∙ sym c.is_within.ensures ∙ c.if-not-is_within.false))

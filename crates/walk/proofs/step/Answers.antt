@@ -1,11 +1,12 @@
 -- `walk::step` meets its contract: each refusal by its question, and else the words are put from the walk's on. Assumes nothing.
+use Prim.Native.Nat.{ℕ}
 use mathlib.Core.Path.{◌≡◌, sym, ap, ◌∙◌}
 use borrow.Author.Tests.{lt-ltb, le-ltb}
 use Rattle.descendants.specs.Descendants.{filled_answered}
 use Rattle.descendants.specs.declared.FilledAnswer.{FilledAnswer}
 use Rattle.walk.specs.declared.Walk.{Walk}
-use Rattle.walk.specs.Walks.{batch_of}
-use Rattle.walk.proofs.Batches.{written_count, written_ending, batch_genus, batch_no_word, batch_finished, batch_written}
+use Rattle.walk.specs.Walks.{unmoved, batch_of}
+use Rattle.walk.proofs.Batches.{write_refused, written_count, written_ending, batch_genus, batch_no_word, batch_idle, batch_written}
 use Rattle.walk.proofs.step.Goals as goal
 use Rattle.walk.proofs.step.Goals.{After-write_from-answer, Joined-more, then-more, else-more}
 
@@ -31,13 +32,19 @@ pub returns-then-genus-gt32 : goal.returns-then-genus-gt32
 returns-then-genus-gt32 c = sym (batch_genus _ _ c.if-genus-gt32.true)
 
 pub returns-then-walk-ne0 : goal.returns-then-walk-ne0
-returns-then-walk-ne0 c = let at-finished = c in sym (batch_no_word _ _ at-finished.if-genus-gt32.false at-finished.if-walk.true c.if-walk-ne0.true)
+returns-then-walk-ne0 c =
+    rw (c.out_of_order.ensures.walk, c.out_of_order.ensures.answer) (sym (batch_no_word _ _ c.if-genus-gt32.false c.if-walk.true c.if-walk-ne0.true))
 
 pub returns-then-walk : goal.returns-then-walk
-returns-then-walk c = let at-finished = c in sym (batch_finished _ _ at-finished.if-genus-gt32.false at-finished.if-walk.true c.if-walk-ne0.false)
+returns-then-walk c = sym (batch_idle _ _ c.if-genus-gt32.false c.if-walk.true c.if-walk-ne0.false)
 
 pub returns-in-Refused : goal.returns-in-Refused
-returns-in-Refused c = ending (goal.at.returns-in-Refused c).After-write_from-answer c.in-Refused.is
+returns-in-Refused c =
+    let start = c.args in
+    let four = write_refused _ _ _ _ _ c.in-Refused.ensures in
+    rw (c.out_of_order-in-Refused.ensures.walk, c.out_of_order-in-Refused.ensures.answer)
+    (ap (λ (n : ℕ). unmoved n start.walk c.write_from-answer.new.out) (sym four)
+    ∙ ending (goal.at.returns-in-Refused c).After-write_from-answer c.in-Refused.is)
 
 pub returns-after-more : goal.returns-after-more
 returns-after-more c = rw (count (goal.at.returns-after-more c).Joined-more) (ending (goal.at.returns-after-more c).After-write_from-answer c.in-Given.is)

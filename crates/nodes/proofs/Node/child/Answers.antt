@@ -1,4 +1,4 @@
--- `tables::Node::child` meets its contract. Assumes nothing.
+-- `nodes::Node::child` meets its contract. Assumes nothing.
 use Rattle.std.proofs.Common.{sym, arith}
 use Rattle.nodes.proofs.Nodes.{child_root, child_low, child_far, child_computed}
 use Rattle.nodes.proofs.Node.child.Goals as goal
@@ -11,13 +11,9 @@ returns-then-c-lt2 c = sym (child_low _ _ c.if-w-eq0.false c.if-c-lt2.true)
 
 pub returns-then-e-gt63 : goal.returns-then-e-gt63
 returns-then-e-gt63 c =
-    let at = c in
-    sym (child_far _ _ at.if-w-eq0.false at.if-c-lt2.false (omega (arith, c.at_offset-e.ensures)))
+    sym (child_far _ _ c.if-w-eq0.false c.if-c-lt2.false (omega (arith, c.at_offset-e.ensures)))
 
 pub returns : goal.returns
 returns c =
-    let raked = c in
-    let there = raked in
-    let start = there in
-    child_computed start.args.self start.args.d.0 _ _ there.if-w-eq0.false there.if-c-lt2.false
-    (omega (arith, there.at_offset-e.ensures)) raked.if-e-gt63.false raked.rake-s.ensures
+    child_computed c.args.self c.args.d.0 _ _ c.if-w-eq0.false c.if-c-lt2.false
+    (omega (arith, c.at_offset-e.ensures)) c.if-e-gt63.false c.rake-s.ensures

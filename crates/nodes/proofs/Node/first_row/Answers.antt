@@ -1,4 +1,4 @@
--- `tables::Node::first_row` meets its contract. Assumes nothing.
+-- `nodes::Node::first_row` meets its contract. Assumes nothing.
 use Rattle.std.proofs.Common.{sym, ◌∙◌, arith}
 use Rattle.semigroups.proofs.Elements.{element_zero}
 use Rattle.nodes.proofs.Rows.{first_row_at}

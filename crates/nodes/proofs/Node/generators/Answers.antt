@@ -1,4 +1,4 @@
--- `tables::Node::generators` meets its contract. Assumes nothing.
+-- `nodes::Node::generators` meets its contract. Assumes nothing.
 use Rattle.std.proofs.Common.{ap}
 use lib.Count.{ones}
 use Rattle.nodes.proofs.Node.generators.Goals as goal

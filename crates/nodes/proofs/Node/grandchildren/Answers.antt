@@ -1,4 +1,4 @@
--- `tables::Node::grandchildren` meets its contract. Assumes nothing.
+-- `nodes::Node::grandchildren` meets its contract. Assumes nothing.
 use Rattle.std.proofs.Common.{◌≤◌, sym, ap, ◌∙◌, arith}
 use Rattle.semigroups.proofs.Operations.{multiplicity_le}
 use Rattle.seeds.specs.Grandchildren.{pairs}
@@ -24,20 +24,16 @@ overflow_add-result c = omega (arith, c.pairs_among.ensures, (pairs_bound _ (few
 -- where k is below 2
 pub returns-then-k-lt2 : goal.returns-then-k-lt2
 returns-then-k-lt2 c =
-    let low = c in
-    let told = low in
-    let n = told.args.self in
+    let n = c.args.self in
     omega (
       arith,
       c.pairs_among.ensures,
-      at_first n told.if-self-eq0.false (omega (arith, low.if-k-lt2.true, told.of_conductor-k.ensures, told.genus_of.ensures)),
+      at_first n c.if-self-eq0.false (omega (arith, c.if-k-lt2.true, c.of_conductor-k.ensures, c.genus_of.ensures)),
       ap pairs c.multiplicity_of.ensures,
     )
 
 -- by rows 0 and 1
 pub returns : goal.returns
 returns c =
-    let low = c in
-    let told = low in
     c.grandchildren_by_rows.ensures
-    ∙ sym (at_rows told.args.self told.if-self-eq0.false (omega (arith, low.if-k-lt2.false, told.of_conductor-k.ensures, told.genus_of.ensures)))
+    ∙ sym (at_rows c.args.self c.if-self-eq0.false (omega (arith, c.if-k-lt2.false, c.of_conductor-k.ensures, c.genus_of.ensures)))

@@ -1,4 +1,4 @@
--- `tables::Node::great_grandchildren_by_rows` meets its contract: row 0 has from 1 to 64 offsets, so that no sum wraps. Assumes nothing.
+-- `nodes::Node::great_grandchildren_by_rows` meets its contract: row 0 has from 1 to 64 offsets, so that no sum wraps. Assumes nothing.
 use Rattle.std.proofs.Common.{◌≡◌, ◌≢◌, ◌<◌, ℕ, ◌+◌, ◌-◌, ◌*◌, ◌/◌, ◌^◌, ◌≤◌, length, sym, ap, ◌∙◌, ap₂, le_trans, lt_of_le_of_lt, mul-le-mul, arith}
 use lib.Bits.{bit_and, and_le_l}
 use lib.Count.{ones, ones-le}

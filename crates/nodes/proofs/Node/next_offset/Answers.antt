@@ -1,4 +1,4 @@
--- `tables::Node::next_offset` meets its contract. Assumes nothing.
+-- `nodes::Node::next_offset` meets its contract. Assumes nothing.
 use Rattle.std.proofs.Common.{◌-◌, ◌/◌, ◌^◌, sym, arith, le-ltb}
 use lib.Count.{trailing_le}
 use Rattle.semigroups.proofs.Booleans.{not_both}

@@ -1,4 +1,4 @@
--- `tables::Node::row_from` meets its contract. Assumes nothing.
+-- `nodes::Node::row_from` meets its contract. Assumes nothing.
 use Rattle.std.proofs.Common.{arith}
 use Rattle.nodes.proofs.Rows.{row_computed}
 use Rattle.nodes.proofs.Node.row_from.Goals as goal

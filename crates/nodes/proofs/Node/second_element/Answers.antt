@@ -1,4 +1,4 @@
--- `tables::Node::second_element` meets its contract. Assumes nothing.
+-- `nodes::Node::second_element` meets its contract. Assumes nothing.
 use Rattle.std.proofs.Common.{lt_of_le_of_lt, arith}
 use lib.Pow.{shr_le}
 use Rattle.semigroups.proofs.Operations.{multiplicity_le}
@@ -13,11 +13,9 @@ returns-then-m-gt63 c = second_element_far c.args.self.word (omega arith) c.mult
 
 pub overflow_add-result-2 : goal.overflow_add-result-2
 overflow_add-result-2 c =
-    let m = c in
-    let word = m.args.self.word in
-    omega (arith, m.multiplicity_of-m.ensures, multiplicity_le word (omega arith), c.multiplicity_of.ensures, multiplicity_le _ (lt_of_le_of_lt (shr_le word m.multiplicity_of-m.result) (omega arith)))
+    let word = c.args.self.word in
+    omega (arith, c.multiplicity_of-m.ensures, multiplicity_le word (omega arith), c.multiplicity_of.ensures, multiplicity_le _ (lt_of_le_of_lt (shr_le word c.multiplicity_of-m.result) (omega arith)))
 
 pub returns : goal.returns
 returns c =
-    let m = c in
-    omega (arith, c.multiplicity_of.ensures, second_element_is m.args.self.word (omega arith) m.multiplicity_of-m.ensures)
+    omega (arith, c.multiplicity_of.ensures, second_element_is c.args.self.word (omega arith) c.multiplicity_of-m.ensures)

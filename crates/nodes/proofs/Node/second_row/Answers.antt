@@ -1,4 +1,4 @@
--- `tables::Node::second_row` meets its contract. Assumes nothing.
+-- `nodes::Node::second_row` meets its contract. Assumes nothing.
 use Rattle.std.proofs.Common.{sym, ◌∙◌, arith}
 use Rattle.semigroups.proofs.Elements.{multiplicity_element}
 use Rattle.nodes.proofs.Rows.{second_row_at, no_row}
@@ -11,6 +11,5 @@ returns-then-m-gt63 c =
 
 pub returns : goal.returns
 returns c =
-    let m = c in
-    let n = m.args.self in
-    c.row_from.ensures 1 (m.multiplicity_of-m.ensures ∙ multiplicity_element n.word (omega arith)) ∙ sym (second_row_at n (omega arith))
+    let n = c.args.self in
+    c.row_from.ensures 1 (c.multiplicity_of-m.ensures ∙ multiplicity_element n.word (omega arith)) ∙ sym (second_row_at n (omega arith))

@@ -1,4 +1,4 @@
--- `tables::Node::third_row` meets its contract. Assumes nothing.
+-- `nodes::Node::third_row` meets its contract. Assumes nothing.
 use Rattle.std.proofs.Common.{sym, arith}
 use Rattle.nodes.proofs.Rows.{no_row}
 use Rattle.nodes.proofs.Node.third_row.Goals as goal
