@@ -1,0 +1,18 @@
+-- The levels below a node are the measure. The loop's invariant: what is left to count makes, with what was counted, all that there is to count.
+use Rattle.std.proofs.Common.{◌-◌, ◌^◌, ◌<◌}
+use Rattle.semigroups.specs.Tree.{leaves}
+use Rattle.nodes.specs.Branches.{branches, Offsets}
+use Rattle.census.specs.Private.{census_place}
+use Rattle.census.proofs.Tallies.{Tallying}
+use Rattle.census.proofs.+tally.Given as goal
+
+abbrev pub decreases-tally : goal.decreases-tally
+decreases-tally l = l.left
+
+abbrev pub invariant-loop-bits : goal.invariant-loop-bits
+invariant-loop-bits l =
+    (l.bits < 2 ^ 64) × Offsets l.n.word l.bits
+    × Tallying census_place (leaves l.left l.n.word) (branches (l.left - 1) l.n.word l.bits) l.initial.out l.out
+
+abbrev pub decreases-loop-bits : goal.decreases-loop-bits
+decreases-loop-bits l = l.bits

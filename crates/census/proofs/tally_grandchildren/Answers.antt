@@ -1,0 +1,20 @@
+-- `census::tally_grandchildren` meets its contract: the rows of the node, moved up, are those that tell the words. Assumes nothing.
+use Rattle.std.proofs.Common.{refl, arith}
+use Rattle.nodes.proofs.Levels.{conductor_within}
+use Rattle.nodes.proofs.MovedRows.{node_two_rows}
+use Rattle.census.proofs.tally_grandchildren.Goals as goal
+
+pub overflow_sub-up : goal.overflow_sub-up
+overflow_sub-up c = (conductor_within 2 _ c.requires.node_with_levels).0
+
+pub overflow_shl-first_row : goal.overflow_shl-first_row
+overflow_shl-first_row c = omega (arith, conductor_within 2 _ c.requires.node_with_levels)
+
+pub overflow_shl-second_row : goal.overflow_shl-second_row
+overflow_shl-second_row c = omega (arith, conductor_within 2 _ c.requires.node_with_levels)
+
+pub tally_by_rows-requires : goal.tally_by_rows-requires
+tally_by_rows-requires c = record {
+  two_rows = node_two_rows _ refl c.first_row.ensures c.second_row.ensures c.requires.node_with_levels c.requires.word_bound;
+  room_for = c.requires.room_for;
+}
