@@ -1,10 +1,6 @@
 -- `listing::put_bytes` meets its contract. Assumes nothing.
-use Prim.Native.Nat.{◌+◌, ◌<◌}
-use mathlib.Core.Path.{◌≡◌, refl}
-use native.Mathlib.Omega.{arith}
-use native.Mathlib.Numerals.{add-one}
-use lib.ListN.{length}
-use lib.Seq.{take-suc, take_all}
+use Rattle.std.proofs.Common.{◌≡◌, ◌+◌, ◌<◌, refl, length, add-one, arith}
+use Rattle.std.proofs.Math.Seq.{take-suc, take_all}
 use Rattle.listing.proofs.Writing.{puts_on, puts_byte, puts_length}
 use Rattle.listing.proofs.put_bytes.Goals as goal
 

@@ -1,6 +1,5 @@
 -- The loop's invariant: the bytes passed are written.
-use Prim.Native.Nat.{◌+◌, ◌-◌, ◌≤◌}
-use lib.ListN.{length, take}
+use Rattle.std.proofs.Common.{◌+◌, ◌-◌, ◌≤◌, length, take}
 use Rattle.listing.specs.Writing.{Puts}
 use Rattle.listing.proofs.put_bytes.Given as goal
 

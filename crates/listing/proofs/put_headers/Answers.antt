@@ -1,7 +1,5 @@
 -- `listing::put_headers` meets its contract. Assumes nothing.
-use Prim.Native.Nat.{ℕ}
-use mathlib.Core.Path.{◌≡◌, sym, ap}
-use native.Mathlib.Omega.{arith}
+use Rattle.std.proofs.Common.{◌≡◌, ℕ, sym, ap, arith}
 use Rattle.semigroups.specs.Lists.{run, joined}
 use Rattle.listing.specs.Text.{header_of, headers_to}
 use Rattle.listing.proofs.Lines.{header_of_le}

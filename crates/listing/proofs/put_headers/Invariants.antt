@@ -1,5 +1,5 @@
 -- The loop's invariant: the headers of the genera passed are written.
-use Prim.Native.Nat.{◌-◌, ◌*◌, ◌≤◌}
+use Rattle.std.proofs.Common.{◌-◌, ◌*◌, ◌≤◌}
 use Rattle.semigroups.specs.Lists.{run, joined}
 use Rattle.listing.specs.Text.{header_of}
 use Rattle.listing.specs.Writing.{Puts}

@@ -1,5 +1,5 @@
 -- `listing::put_heading` meets its contract. Assumes nothing.
-use native.Mathlib.Omega.{arith}
+use Rattle.std.proofs.Common.{arith}
 use Rattle.listing.specs.Pages.{heading_of}
 use Rattle.listing.proofs.Writing.{puts_nothing}
 use Rattle.listing.proofs.put_heading.Goals as goal

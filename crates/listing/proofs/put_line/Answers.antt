@@ -1,8 +1,5 @@
 -- `listing::put_line` meets its contract: the three fields are written one behind the other. Assumes nothing.
-use Prim.Native.Nat.{ℕ, ◌≤◌}
-use mathlib.Core.Path.{◌≡◌, sym, ap}
-use native.Mathlib.Omega.{arith}
-use lib.ListN.{length}
+use Rattle.std.proofs.Common.{◌≡◌, ℕ, ◌≤◌, sym, ap, length, arith}
 use Rattle.semigroups.specs.Words.{reported_conductor}
 use Rattle.semigroups.specs.Elements.{multiplicity}
 use Rattle.semigroups.proofs.Reported.{reported_le}

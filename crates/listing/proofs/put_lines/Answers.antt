@@ -1,9 +1,6 @@
 -- `listing::put_lines` meets its contract. Assumes nothing.
-use Prim.Native.Nat.{ℕ, ◌<◌}
-use mathlib.Core.Path.{refl}
-use native.Mathlib.Omega.{arith}
-use lib.ListN.{length, get_or}
-use lib.Seq.{take_all}
+use Rattle.std.proofs.Common.{ℕ, ◌<◌, refl, length, get_or, arith}
+use Rattle.std.proofs.Math.Seq.{take_all}
 use Rattle.semigroups.specs.Lists.{joined}
 use Rattle.semigroups.proofs.Lists.{joined_more}
 use Rattle.listing.specs.Text.{line_of}

@@ -1,7 +1,5 @@
 -- The loop's invariant: the lines of the words passed are written.
-use Prim.Native.Nat.{◌+◌, ◌-◌, ◌*◌, ◌≤◌}
-use mathlib.Core.Path.{◌≡◌}
-use lib.ListN.{length, take}
+use Rattle.std.proofs.Common.{◌≡◌, ◌+◌, ◌-◌, ◌*◌, ◌≤◌, length, take}
 use Rattle.semigroups.specs.Lists.{joined}
 use Rattle.listing.specs.Text.{line_of}
 use Rattle.listing.specs.Writing.{Puts}

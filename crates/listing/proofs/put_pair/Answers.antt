@@ -1,8 +1,6 @@
 -- `listing::put_pair` meets its contract: the two digits are stored one behind the other. Assumes nothing.
-use mathlib.Core.Path.{refl}
-use native.Mathlib.Numerals.{add-one}
-use native.Mathlib.Omega.{arith}
-use lib.ListN.{length-set}
+use Rattle.std.proofs.Common.{refl, add-one, arith}
+use Rattle.std.proofs.Math.ListN.{length-set}
 use Rattle.listing.specs.Writing.{pair_of}
 use Rattle.listing.proofs.put_pair.Goals as goal
 

@@ -1,8 +1,5 @@
 -- `listing::refusal_line` meets its contract. Assumes nothing.
-use Prim.Native.Nat.{ℕ, ◌<◌}
-use mathlib.Core.Path.{ap, ap₂}
-use mathlib.Core.List.{List, ◌++◌}
-use native.Mathlib.Omega.{arith}
+use Rattle.std.proofs.Common.{ℕ, ◌<◌, ap, ap₂, List, ◌++◌, arith}
 use borrow.Author.Tests.{lt-leb, le-leb}
 use Rattle.answers.specs.Answers.{given}
 use Rattle.answers.proofs.Answers.{number_range}
