@@ -3,11 +3,29 @@
 // apart from the plain definitions.
 #![tactic(auto)]
 
+ghost use Rattle.std.specs.Prelude.{◌≤◌, IfOk};
+
 use answers::{NumberAnswer, Refusal};
 use listing::{ListingAnswer, PageAnswer};
 use requests::RequestAnswer;
 use std::io;
 use std::io::Read;
+
+// Reads standard input to its end, or until the four places are full, and gives the number of bytes.
+fn read_front(rt: &impl Input, input: &mut [u8; 4]) -> io::Result<usize>
+    ensures { IfOk result (λ n. n ≤ 4) }
+{
+    let mut reader = rt.reader();
+    let mut n = 0;
+    while n < 4 {
+        let got = reader.read(&mut input[n..])?;
+        if got == 0 {
+            return Ok(n);
+        }
+        n += got;
+    }
+    Ok(n)
+}
 
 fn text(rt: &impl Print, bytes: &[u8]) -> io::Result<()> {
     rt.write_all(bytes)
@@ -78,10 +96,10 @@ fn show_text(rt: &impl Print, input: &[u8]) -> io::Result<()> {
 }
 
 // What the program writes for standard input.
-fn show_input(rt: &(impl Print + Input + AllocGlobal)) -> io::Result<()> {
-    let mut input = Vec::new(rt.alloc());
-    rt.reader().take(4).read_to_end(&mut input)?;
-    show_text(rt, &input)
+fn show_input(rt: &(impl Print + Input)) -> io::Result<()> {
+    let mut input = [0u8; 4];
+    let n = read_front(rt, &mut input)?;
+    show_text(rt, &input[..n])
 }
 
 // How many places are lent to the call for header lines, its answer, and the first and the last place afterwards.

@@ -4,10 +4,28 @@
 // conductor c, 0 to 64.
 #![tactic(auto)]
 
+ghost use Rattle.std.specs.Prelude.{◌≤◌, IfOk};
+
 use answers::{NumberAnswer, Refusal};
 use requests::RequestAnswer;
 use std::io;
 use std::io::Read;
+
+// Reads standard input to its end, or until the four places are full, and gives the number of bytes.
+fn read_front(rt: &impl Input, input: &mut [u8; 4]) -> io::Result<usize>
+    ensures { IfOk result (λ n. n ≤ 4) }
+{
+    let mut reader = rt.reader();
+    let mut n = 0;
+    while n < 4 {
+        let got = reader.read(&mut input[n..])?;
+        if got == 0 {
+            return Ok(n);
+        }
+        n += got;
+    }
+    Ok(n)
+}
 
 // Writes the line of a refusal.
 fn write_refusal(rt: &impl Print, refusal: Refusal) -> io::Result<()> {
@@ -179,9 +197,9 @@ fn write_census(rt: &impl Print, genus: u64) -> io::Result<()> {
 }
 
 fn main(rt: HostRuntime) -> io::Result<()> {
-    let mut input = Vec::new(rt.alloc());
-    rt.reader().take(4).read_to_end(&mut input)?;
-    let answer = requests::request(&input);
+    let mut input = [0u8; 4];
+    let n = read_front(&rt, &mut input)?;
+    let answer = requests::request(&input[..n]);
     match answer {
         RequestAnswer::Refused(refusal) => write_refusal(&rt, refusal),
         RequestAnswer::Headers => write_refusal(&rt, Refusal::MalformedInput),

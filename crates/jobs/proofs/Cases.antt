@@ -19,12 +19,15 @@ pub known_jobs :
 unfolding job_of laid_before joined run field_size field_width bit bytes_of map_for of_bits digit field_for
 known_jobs = (refl, refl)
 
--- refused jobs: a byte too few and no genus; no genus; a next word of a finished walk; genus 33
+-- refused jobs: an empty one; a bit map with bit 7 alone; version 3; bit 4 in version 1 and bit 6 in version 2; a byte too few and one too many;
+-- a byte too few and no genus; no genus; a next word of a finished walk; genus 33
 pub known_refusals :
-    (read_of 2 (0x02 ∷ []) ≡ refused 18) × (read_of 2 (0x02 ∷ 1 ∷ []) ≡ refused 19)
-    × (read_of 2 (0x29 ∷ 1 ∷ 1 ∷ 0 ∷ 0 ∷ 0 ∷ 0 ∷ 0 ∷ 0 ∷ 0 ∷ []) ≡ refused 19) × (read_of 2 (0x21 ∷ 33 ∷ []) ≡ refused 3)
+    (read_of 2 [] ≡ refused 18) × (read_of 2 (0x80 ∷ []) ≡ refused 18) × (read_of 2 (0x80 ∷ 3 ∷ []) ≡ refused 17) × (read_of 2 (0x10 ∷ []) ≡ refused 17)
+    × (read_of 2 (0xc1 ∷ 2 ∷ 4 ∷ []) ≡ refused 17) × (read_of 2 (0x01 ∷ []) ≡ refused 18) × (read_of 2 (0x01 ∷ 4 ∷ 0 ∷ []) ≡ refused 18) × (read_of 2 (0x02 ∷ []) ≡ refused 18)
+    × (read_of 2 (0x02 ∷ 1 ∷ []) ≡ refused 19) × (read_of 2 (0x29 ∷ 1 ∷ 1 ∷ 0 ∷ 0 ∷ 0 ∷ 0 ∷ 0 ∷ 0 ∷ 0 ∷ []) ≡ refused 19)
+    × (read_of 2 (0x21 ∷ 33 ∷ []) ≡ refused 3)
 unfolding read_of has_version version_in knows has_bits version_has member_of every run field_place sum_over field_size field_width bit said_by saved_by complete saved_of walk_said placed_by standing none field_in value_of value_or
-known_refusals = (refl, refl, refl, refl)
+known_refusals = (refl, refl, refl, refl, refl, refl, refl, refl, refl, refl, refl)
 
 -- a finished job of version 1 without its version byte and with it: the window is from 1 to 33, and no words are written
 pub known_version_1 :
