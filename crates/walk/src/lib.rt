@@ -112,15 +112,6 @@ pub fn start(word: u64) -> WalkAnswer
     start_in(word, 1, 33)
 }
 
-// A batch of a walk that is out of order: refused 4, with the walk as it was.
-fn out_of_order(walk: Walk) -> Moved
-    ensures walk { result.walk ≡ walk }
-    ensures answer { result.answer ≡ BatchAnswer.Refused Refusal.WalkOutOfOrder }
-{
-    let answer = BatchAnswer::Refused(Refusal::WalkOutOfOrder);
-    Moved { walk, answer }
-}
-
 // A batch by value: fills the lent list from the front with the words from the walk's on, as far as the list or the semigroups last, and
 // gives the walk that stands on the next. Refused above genus 32 and where the walk is out of order: then nothing is written, and the
 // walk is as it was.
@@ -134,9 +125,11 @@ pub fn step(walk: Walk, out: &mut [u64]) -> Moved
             answer: BatchAnswer::Refused(Refusal::GenusTooLarge),
         };
     }
+    let answer = BatchAnswer::Refused(Refusal::WalkOutOfOrder);
+    let out_of_order = Moved { walk, answer };
     if walk.finished {
         if walk.word != 0 {
-            return out_of_order(walk);
+            return out_of_order;
         }
         return Moved {
             walk,
@@ -148,7 +141,7 @@ pub fn step(walk: Walk, out: &mut [u64]) -> Moved
     }
     let answer = descendants::write_from(genus, walk.word, walk.lowest, walk.highest, out);
     match answer {
-        FilledAnswer::Refused(_) => out_of_order(walk),
+        FilledAnswer::Refused(_) => out_of_order,
         FilledAnswer::Given(filled) => {
             let more = out.len() < filled.at;
             let count = if more { out.len() } else { filled.at };

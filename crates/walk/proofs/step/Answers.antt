@@ -33,7 +33,7 @@ returns-then-genus-gt32 c = sym (batch_genus _ _ c.if-genus-gt32.true)
 
 pub returns-then-walk-ne0 : goal.returns-then-walk-ne0
 returns-then-walk-ne0 c =
-    rw (c.out_of_order.ensures.walk, c.out_of_order.ensures.answer) (sym (batch_no_word _ _ c.if-genus-gt32.false c.if-walk.true c.if-walk-ne0.true))
+    sym (batch_no_word _ _ c.if-genus-gt32.false c.if-walk.true c.if-walk-ne0.true)
 
 pub returns-then-walk : goal.returns-then-walk
 returns-then-walk c = sym (batch_idle _ _ c.if-genus-gt32.false c.if-walk.true c.if-walk-ne0.false)
@@ -42,9 +42,8 @@ pub returns-in-Refused : goal.returns-in-Refused
 returns-in-Refused c =
     let start = c.args in
     let four = write_refused _ _ _ _ _ c.in-Refused.ensures in
-    rw (c.out_of_order-in-Refused.ensures.walk, c.out_of_order-in-Refused.ensures.answer)
-    (ap (λ (n : ℕ). unmoved n start.walk c.write_from-answer.new.out) (sym four)
-    ∙ ending (goal.at.returns-in-Refused c).After-write_from-answer c.in-Refused.is)
+    ap (λ (n : ℕ). unmoved n start.walk c.write_from-answer.new.out) (sym four)
+    ∙ ending (goal.at.returns-in-Refused c).After-write_from-answer c.in-Refused.is
 
 pub returns-after-more : goal.returns-after-more
 returns-after-more c = rw (count (goal.at.returns-after-more c).Joined-more) (ending (goal.at.returns-after-more c).After-write_from-answer c.in-Given.is)
