@@ -46,7 +46,7 @@ fn write_headers(rt: &impl Print) -> io::Result<()> {
     }
 }
 
-// Writes the pages of a listing, until one is the last or is not written.
+// Writes the pages of a listing, until one is the last.
 fn write_pages(rt: &impl Print, start: Listing) -> io::Result<()> {
     let mut listing = start;
     let mut out = [0u8; 65536];

@@ -28,7 +28,7 @@ use Rattle.nodes.proofs.RowBits.{row_of_child_bit}
 use Rattle.nodes.proofs.Nodes.{first_row_generators}
 use Rattle.nodes.proofs.Levels.{node_conductor}
 use Rattle.nodes.proofs.Branches.{child_of_generator, child_levels, leaves_row, offsets_row}
-use Rattle.nodes.proofs.NewGaps.{positions_moved, gap_branches_moved, fits_moved, upper_lowest, upper_rest}
+use Rattle.nodes.proofs.NewGaps.{positions_moved, gap_branches_moved, fits_moved, upper_lowest, upper_bit, upper_rest, gap_word}
 
 -- ---- one row of a child, as numbers
 
@@ -251,6 +251,15 @@ module _ {w m u generators seeds last : ℕ} (rows : ThreeRows w m u generators 
       -- up to that bit the child has no generator
       below_child : (k : ℕ) → k ≤ i → k < 64 → bit (moved_row_of_child generators seeds m i) k ≡ false
       below_child k h l = ap (λ (n : ℕ). bit n k) first_moved ∙ moved_low (child_word w (conductor w + d)) 0 k (omega (arith, child.new_conductor, offset.2, conductor_pos w)) l
+
+  -- and so are those of the child without the lowest generator that is left, by the numbers as they are computed
+  pub child_two_rows_computed : {rest at others : ℕ} → Upper generators rest → 0 < rest
+      → (at ≡ lowest_offset rest) × (others ≡ rest - 2 ^ lowest_offset rest)
+      → TwoRows (w + (rest - others)) m (bit_or others (bit_and seeds (rest - others) * 2 ^ m % 2 ^ 64))
+      (bit_or seeds (bit_and last (rest - others) * 2 ^ u % 2 ^ 64))
+  child_two_rows_computed from some low =
+      let off = upper_lowest from some low in
+      rw (gap_word w off, child_row_computed seeds m from some low, off.value) (child_two_rows (upper_bit from some low))
 
 -- ---- as they are read off a node
 

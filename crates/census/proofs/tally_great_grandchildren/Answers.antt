@@ -9,7 +9,7 @@ use Rattle.nodes.proofs.Levels.{conductor_within}
 use Rattle.nodes.proofs.Rows.{second_above}
 use Rattle.nodes.proofs.Branches.{TakenOff}
 use Rattle.nodes.proofs.NewGaps.{upper_lowest, upper_bit, gap_word}
-use Rattle.nodes.proofs.MovedRows.{child_row_computed, three_rows_low, three_levels_below, three_rows_fit, child_two_rows, node_three_rows}
+use Rattle.nodes.proofs.MovedRows.{three_rows_low, three_levels_below, three_rows_fit, child_two_rows_computed, node_three_rows}
 use Rattle.census.specs.Private.{census_place, tallied}
 use Rattle.census.proofs.RowPlaces.{with_multiplicity, gaps_begin, gap_room, gaps_again, gaps_end}
 use Rattle.census.proofs.tally_great_grandchildren.Goals as goal
@@ -77,15 +77,12 @@ overflow_shl-last-in-loop-rest c = (three_rows_low (rows (goal.at.overflow_shl-l
 pub tally_by_rows-requires : goal.tally_by_rows-requires
 tally_by_rows-requires c =
     let at = goal.at.tally_by_rows-requires c in
-    let low = at.After-lowest_of-low in
     let now = c.loop-rest.invariant in
     record {
       two_rows =
           with_multiplicity {m = c.multiplicity_of-m.result}
-          (rw (child low, child_row_computed _ _ now.upper (omega arith) c.lowest_of-low.ensures, (lowest low).value)
-          (child_two_rows (rows at.After-first_row) (upper_bit now.upper (omega arith) c.lowest_of-low.ensures)))
-          refl;
-      room_for = rw (child low) (gap_room now (omega arith) c.lowest_of-low.ensures);
+          (child_two_rows_computed (rows at.After-first_row) now.upper (omega arith) c.lowest_of-low.ensures) refl;
+      room_for = rw (child at.After-lowest_of-low) (gap_room now (omega arith) c.lowest_of-low.ensures);
     }
 
 pub loop-rest-smaller : goal.loop-rest-smaller

@@ -12,7 +12,7 @@ use Rattle.nodes.proofs.Levels.{conductor_within}
 use Rattle.nodes.proofs.Rows.{second_above}
 use Rattle.nodes.proofs.Branches.{TakenOff}
 use Rattle.nodes.proofs.NewGaps.{upper_all, upper_lowest, upper_bit, upper_again, gap_branches_none, gap_branches_first, gap_word}
-use Rattle.nodes.proofs.MovedRows.{child_row_computed, three_rows_low, three_levels_below, three_rows_fit, child_two_rows, node_three_rows}
+use Rattle.nodes.proofs.MovedRows.{three_rows_low, three_levels_below, three_rows_fit, child_two_rows_computed, node_three_rows}
 use Rattle.lending.specs.Lending.{up_to, put_all}
 use Rattle.lending.proofs.Lending.{putting_all, putting_none, putting_stops, putting_on}
 use Rattle.descendants.proofs.put_great_grandchildren.Goals as goal
@@ -81,14 +81,10 @@ overflow_shl-last-in-loop-rest c = (three_rows_low (rows (goal.at.overflow_shl-l
 -- rows 0 and 1 of that word are made of the generator, of the others and of the rows
 pub put_by_rows-t-requires : goal.put_by_rows-t-requires
 put_by_rows-t-requires c =
-    let at = goal.at.put_by_rows-t-requires c in
-    let low = lowest at.After-lowest_of-low in
-    let now = c.loop-rest in
+    let now = c.loop-rest.invariant in
     record {
-      two_rows =
-          rw (gap_word _ low, child_row_computed _ _ now.invariant.0 (omega arith) c.lowest_of-low.ensures, low.value)
-          (child_two_rows (rows at.After-first_row) (upper_bit now.invariant.0 (omega arith) c.lowest_of-low.ensures));
-      from_in_bounds = now.invariant.1.room;
+      two_rows = child_two_rows_computed (rows (goal.at.put_by_rows-t-requires c).After-first_row) now.0 (omega arith) c.lowest_of-low.ensures;
+      from_in_bounds = now.1.room;
     }
 
 pub shape_of-out-then-out-t : goal.shape_of-out-then-out-t

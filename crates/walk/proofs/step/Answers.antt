@@ -1,6 +1,9 @@
 -- `walk::step` meets its contract: each refusal by its question, and else the words are put from the walk's on. Assumes nothing.
 use Prim.Native.Nat.{ℕ}
 use mathlib.Core.Path.{◌≡◌, sym, ap, ◌∙◌}
+use mathlib.Core.Bool.{Bool, cond}
+use mathlib.Core.List.{List}
+use lib.ListN.{length}
 use borrow.Author.Tests.{lt-ltb, le-ltb}
 use Rattle.descendants.specs.Descendants.{filled_answered}
 use Rattle.descendants.specs.declared.FilledAnswer.{FilledAnswer}
@@ -23,9 +26,11 @@ ending c e =
 -- the number of words that were written
 count : (c : Joined-more) → c.if-more.count ≡ written_count (c.write_from-answer.new.out, c.in-Given.filled)
 count c =
+    let out : List ℕ = c.write_from-answer.new.out in
+    let either : Bool → ℕ = λ b. cond b (length out) c.in-Given.filled.at in
     elim c.if-more.branch [
-      | then-more w ↦ rw (lt-ltb _ _ w.if-more.true) w.count-is
-      | else-more w ↦ rw (le-ltb _ _ w.if-more.false) w.count-is
+      | then-more w ↦ w.count-is ∙ ap either (sym (lt-ltb _ _ w.if-more.true))
+      | else-more w ↦ w.count-is ∙ ap either (sym (le-ltb _ _ w.if-more.false))
     ]
 
 pub returns-then-genus-gt32 : goal.returns-then-genus-gt32
