@@ -1,4 +1,5 @@
--- `answers::all_positive` meets its contract. The loop's invariant: the members from `i` on decide the test. Assumes nothing.
+-- `answers::all_positive` meets its contract: a byte decides the test, or it is that of the later ones. Assumes nothing.
+use Rattle.std.proofs.Common.{ℕ, List}
 use mathlib.Core.Path.{refl}
 use native.Mathlib.Omega.{arith}
 use lib.Dec.{ltb}
@@ -12,15 +13,13 @@ loop-i-init c = refl
 
 pub returns-then-list-i-eq0 : goal.returns-then-list-i-eq0
 returns-then-list-i-eq0 c =
-    let turn = c in
-    tested_no (ltb 0) turn.args.list.now turn.loop-i.i turn.loop-i.invariant (omega arith) (le-ltb 0 (get_or turn.args.list.now turn.loop-i.i 0) (omega arith))
+    let list : List ℕ = c.args.list.now in
+    tested_no (ltb 0) list c.loop-i.i c.loop-i.invariant (omega arith) (le-ltb 0 (get_or list c.loop-i.i 0) (omega arith))
 
 pub loop-i-preserved : goal.loop-i-preserved
 loop-i-preserved c =
-    let turn = c in
-    tested_yes (ltb 0) turn.args.list.now turn.loop-i.i turn.loop-i.invariant (omega arith) (lt-ltb 0 (get_or turn.args.list.now turn.loop-i.i 0) (omega arith))
+    let list : List ℕ = c.args.list.now in
+    tested_yes (ltb 0) list c.loop-i.i c.loop-i.invariant (omega arith) (lt-ltb 0 (get_or list c.loop-i.i 0) (omega arith))
 
 pub returns : goal.returns
-returns c =
-    let end = c in
-    tested_all (ltb 0) end.args.list.now end.loop-i.i end.loop-i.invariant (omega arith)
+returns c = tested_all (ltb 0) c.args.list.now c.loop-i.i c.loop-i.invariant (omega arith)

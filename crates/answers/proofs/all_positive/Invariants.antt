@@ -1,3 +1,4 @@
+-- The loop's invariant: the members from `i` on decide the test.
 use mathlib.Core.Path.{◌≡◌}
 use lib.Dec.{ltb}
 use lib.ListN.{drop}

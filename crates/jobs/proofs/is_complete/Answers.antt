@@ -11,9 +11,8 @@ returns-then-not-stands c = rw (sym c.stands.ensures ∙ c.if-not-stands.true)
 pub returns-then-stands : goal.returns-then-stands
 unfolding complete
 returns-then-stands c =
-    let first = c in
     rw (
-      sym first.stands.ensures ∙ first.if-not-stands.false,
+      sym c.stands.ensures ∙ c.if-not-stands.false,
       sym c.stands-2.ensures ∙ c.if-stands.true,
     )
     (ap not c.stands-then-stands.ensures)
@@ -21,8 +20,7 @@ returns-then-stands c =
 pub returns : goal.returns
 unfolding complete
 returns c =
-    let first = c in
     rw (
-      sym first.stands.ensures ∙ first.if-not-stands.false,
+      sym c.stands.ensures ∙ c.if-not-stands.false,
       sym c.stands-2.ensures ∙ c.if-stands.false,
     )

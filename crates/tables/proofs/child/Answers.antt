@@ -19,14 +19,14 @@ accepted : (c : In-Given) → Accepted c.args.word × (c.in-Given.report ≡ rep
 accepted c = look_given_report _ _ (sym c.look-answer.ensures ∙ ap looked c.in-Given.is)
 
 -- the report's genus is the word's
-same-genus : (c : In-Given) → c.in-Given.report.genus ≡ genus c.args.word
+same_genus : (c : In-Given) → c.in-Given.report.genus ≡ genus c.args.word
 unfolding report_of
-same-genus c = ap (λ (r : Report). r.genus) (accepted c).1
+same_genus c = ap (λ (r : Report). r.genus) (accepted c).1
 
 pub returns-then-report-gt31 : goal.returns-then-report-gt31
 returns-then-report-gt31 c =
     let at = (goal.at.returns-then-report-gt31 c).In-Given in
-    sym (no_child _ _ (accepted at).0 (omega (arith, same-genus at)))
+    sym (no_child _ _ (accepted at).0 (omega (arith, same_genus at)))
 
 pub reached-requires : goal.reached-requires
 reached-requires c = (accepted (goal.at.reached-requires c).In-Given).0
@@ -35,7 +35,7 @@ pub removed-requires : goal.removed-requires
 unfolding node_of
 removed-requires c =
     let at = (goal.at.removed-requires c).In-Given in
-    rw c.reached.ensures (accepted_levels 1 _ (omega arith) (accepted at).0 (omega (arith, same-genus at)))
+    rw c.reached.ensures (accepted_levels 1 _ (omega arith) (accepted at).0 (omega (arith, same_genus at)))
 
 pub returns-in-Refused : goal.returns-in-Refused
 unfolding child_of

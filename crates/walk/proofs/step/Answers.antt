@@ -15,8 +15,7 @@ use Rattle.walk.proofs.step.Goals.{After-write_from-answer, Joined-more, then-mo
 
 -- the ending of the batch, by the answer of the call that wrote
 ending : (c : After-write_from-answer) {a : FilledAnswer} → c.write_from-answer.result ≡ a →
-    let start = c in
-    written_ending start.args.walk (filled_answered a, c.write_from-answer.new.out) ≡ batch_of start.args.walk start.args.out.now
+    written_ending c.args.walk (filled_answered a, c.write_from-answer.new.out) ≡ batch_of c.args.walk c.args.out.now
 ending c e =
     let w : Walk = c.args.walk in
     ap (λ (a : FilledAnswer). written_ending w (filled_answered a, c.write_from-answer.new.out)) (sym e)

@@ -18,8 +18,8 @@ module _ (g m : ℕ) (pre : (1 ≤ g) × (g ≤ 32) × (2 ≤ m) × (m ≤ g + 1
   divisor : 1 * 2 ^ m % 2 ^ 64 ≡ 2 ^ m
   divisor = one_shl m (omega arith)
 
-  divisor-large : 4 ≤ 1 * 2 ^ m % 2 ^ 64
-  divisor-large = let four : 2 ^ 2 ≤ 2 ^ m = pow_mono pre.2 in omega (arith, divisor)
+  divisor_large : 4 ≤ 1 * 2 ^ m % 2 ^ 64
+  divisor_large = let four : 2 ^ 2 ≤ 2 ^ m = pow_mono pre.2 in omega (arith, divisor)
 
   dividend : 1 * 2 ^ (m * passed_over g m) % 2 ^ 64 ≡ 2 ^ (m * passed_over g m)
   dividend = one_shl (m * passed_over g m) (omega (arith, room))
@@ -35,7 +35,7 @@ module _ (g m : ℕ) (pre : (1 ≤ g) × (g ≤ 32) × (2 ≤ m) × (m ≤ g + 1
       omega (arith, ap₂ (λ (a b : ℕ). (a - 1) / (b - 1) * 2 ^ (m - 1) % 2 ^ 64) dividend divisor)
 
 pub nonzero_div-multiples : goal.nonzero_div-multiples
-nonzero_div-multiples c = omega (arith, divisor-large c.args.genus c.args.m c.requires)
+nonzero_div-multiples c = omega (arith, divisor_large c.args.genus c.args.m c.requires)
 
 pub overflow_sub-result-3 : goal.overflow_sub-result-3
 overflow_sub-result-3 c = omega (arith, top c.args.genus c.args.m c.requires, word c.args.genus c.args.m c.requires)

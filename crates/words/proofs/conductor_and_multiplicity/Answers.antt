@@ -9,20 +9,20 @@ use Rattle.semigroups.proofs.Operations.{conductor_leading, multiplicity_trailin
 use Rattle.words.proofs.conductor_and_multiplicity.Goals as goal
 
 -- a count of bits is far below the numbers that 64 bits hold, and so is one more
-bit-count-fits : {n : ℕ} → n ≤ 64 → (n < 2 ^ 64) × (n + 1 < 2 ^ 64)
-bit-count-fits h = (omega arith, omega arith)
+bit_count_fits : {n : ℕ} → n ≤ 64 → (n < 2 ^ 64) × (n + 1 < 2 ^ 64)
+bit_count_fits h = (omega arith, omega arith)
 
 pub overflow_cast-conductor : goal.overflow_cast-conductor
-overflow_cast-conductor c = record { fits = (bit-count-fits (leading_le 64 _)).0 }
+overflow_cast-conductor c = record { fits = (bit_count_fits (leading_le 64 _)).0 }
 
 pub overflow_sub-conductor : goal.overflow_sub-conductor
 overflow_sub-conductor c = le_trans (leading_le 64 _) (lit≤ tt)
 
 pub overflow_cast-multiplicity : goal.overflow_cast-multiplicity
-overflow_cast-multiplicity c = record { fits = (bit-count-fits (trailing_le 64 _)).0 }
+overflow_cast-multiplicity c = record { fits = (bit_count_fits (trailing_le 64 _)).0 }
 
 pub overflow_add-multiplicity : goal.overflow_add-multiplicity
-overflow_add-multiplicity c = record { fits = (bit-count-fits (trailing_le 64 _)).1 }
+overflow_add-multiplicity c = record { fits = (bit_count_fits (trailing_le 64 _)).1 }
 
 pub returns : goal.returns
 returns c =

@@ -16,18 +16,15 @@ returns-then-genus-gt32 c = simp (lt-leb (genus c.args.word) 32 (omega (arith, c
 pub returns-then-not-is_closed : goal.returns-then-not-is_closed
 unfolding look_of ask_word
 returns-then-not-is_closed c =
-    let at-genus = c in
-    let w : ℕ = at-genus.args.word in
-    let few : genus w ≤ 32 = omega (arith, at-genus.genus_of-genus.ensures) in
-    let not-closed : closed w ≡ false = sym c.is_closed.ensures ∙ c.if-not-is_closed.true in
-    simp (le-leb (genus w) 32 few, not-closed)
+    let w : ℕ = c.args.word in
+    let few : genus w ≤ 32 = omega (arith, c.genus_of-genus.ensures) in
+    let not_closed : closed w ≡ false = sym c.is_closed.ensures ∙ c.if-not-is_closed.true in
+    simp (le-leb (genus w) 32 few, not_closed)
 
 pub returns : goal.returns
 unfolding look_of ask_word
 returns c =
-    let at_test = c in
-    let at-genus = at_test in
-    let w : ℕ = at-genus.args.word in
-    let few : genus w ≤ 32 = omega (arith, at-genus.genus_of-genus.ensures) in
-    let is-closed : closed w ≡ true = sym at_test.is_closed.ensures ∙ at_test.if-not-is_closed.false in
-    simp (le-leb (genus w) 32 few, is-closed) (ap given c.tell.ensures)
+    let w : ℕ = c.args.word in
+    let few : genus w ≤ 32 = omega (arith, c.genus_of-genus.ensures) in
+    let is_closed : closed w ≡ true = sym c.is_closed.ensures ∙ c.if-not-is_closed.false in
+    simp (le-leb (genus w) 32 few, is_closed) (ap given c.tell.ensures)

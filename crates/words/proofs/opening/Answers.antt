@@ -18,24 +18,21 @@ use Rattle.words.proofs.opening.Goals as goal
 
 pub returns-then-left-word : goal.returns-then-left-word
 returns-then-left-word c =
-    let start = c in
-    let w : ℕ = start.args.word in
-    let fits = start.ranges.word.fits in
+    let w : ℕ = c.args.word in
+    let fits = c.ranges.word.fits in
     sym ((opening_none w fits).1 ((closed_iff w fits).0 ((possible_all w fits).0 (sym c.possible_gaps-left.ensures ∙ c.if-left-word.true))))
 
 pub overflow_add-result : goal.overflow_add-result
 overflow_add-result c =
-    let start = c in
     let left : ℕ = c.possible_gaps-left.result in
-    let fits : left < 2 ^ 64 = omega (arith, start.ranges.word.fits, c.possible_gaps-left.ensures, mod-le start.args.word (2 ^ (least_gap_sum start.args.word - 1))) in
+    let fits : left < 2 ^ 64 = omega (arith, c.ranges.word.fits, c.possible_gaps-left.ensures, mod-le c.args.word (2 ^ (least_gap_sum c.args.word - 1))) in
     omega (arith, c.genus_of.ensures, genus_ones left fits, ones-le 64 left fits)
 
 pub returns : goal.returns
 returns c =
     let given = c.possible_gaps-left.ensures in
-    let start = c in
-    let w : ℕ = start.args.word in
-    let fits = start.ranges.word.fits in
+    let w : ℕ = c.args.word in
+    let fits = c.ranges.word.fits in
     let fails : closed w ≡ false = is_false (closed w) (λ t. c.if-left-word.false (given ∙ (possible_all w fits).1 t)) in
     let left : c.genus_of.result ≡ genus (w % 2 ^ (least_gap_sum w - 1)) = c.genus_of.ensures ∙ ap genus given in
     sym (opening_least w fits _ (least_gap_sum_is w fits fails) ∙ ap some (omega arith))

@@ -1,5 +1,4 @@
--- `words::possible_gaps` meets its contract. The loop's invariant: the sums with the elements below `a` are tried, and the gaps below the least
--- one found are left. Assumes nothing.
+-- `words::possible_gaps` meets its contract: the sums that are gaps are taken away element by element. Assumes nothing.
 use Prim.Native.Nat.{ℕ, ◌+◌, ◌*◌, ◌-◌, ◌/◌, ◌%◌, ◌^◌, ◌≤◌, ◌<◌}
 use mathlib.Core.Path.{◌≡◌, sym, ap, subst, ◌∙◌}
 use mathlib.Core.Bool.{not}
@@ -21,10 +20,9 @@ lower : (c : Then-sums-ne0)
     → let zeros = count_trailing_zeros 64 (sums_among c.args.word c.loop-a.a c.loop-a.left) in
     (zeros < 64) × (1 ≤ 1 * 2 ^ zeros % 2 ^ 64)
 lower c =
-    let start = c in
     let loop = c.loop-a in
-    let zeros : ℕ = count_trailing_zeros 64 (sums_among start.args.word loop.a loop.left) in
-    let (h, t) = tried_less _ start.ranges.word.fits _ _ loop.invariant c.if-sums-ne0.true in
+    let zeros : ℕ = count_trailing_zeros 64 (sums_among c.args.word loop.a loop.left) in
+    let (h, t) = tried_less _ c.ranges.word.fits _ _ loop.invariant c.if-sums-ne0.true in
     (h, omega (arith, one_shl zeros h, pow_pos zeros))
 
 -- the sums with `a` are tried, and the element after it is next
@@ -39,9 +37,9 @@ tried c =
     ]
 
 -- the zeros below the next element
-zeros-le : (c : Else-left-a-eq0)
+zeros_le : (c : Else-left-a-eq0)
     → count_trailing_zeros 64 (complement c.args.word / 2 ^ c.loop-a.a) ≤ 64
-zeros-le c = trailing_le 64 _
+zeros_le c = trailing_le 64 _
 
 -- 1 is an element where the last bit does not stand
 pub returns-then-word-eq0 : goal.returns-then-word-eq0
@@ -53,9 +51,8 @@ returns-then-word-eq0 c =
 
 pub loop-a-init : goal.loop-a-init
 loop-a-init c =
-    let start = c in
-    let w : ℕ = start.args.word in
-    subst (λ (m : ℕ). Tried w m w) (sym c.multiplicity_of-a.ensures) (tried_none w start.ranges.word.fits)
+    let w : ℕ = c.args.word in
+    subst (λ (m : ℕ). Tried w m w) (sym c.multiplicity_of-a.ensures) (tried_none w c.ranges.word.fits)
 
 pub overflow_cast-left : goal.overflow_cast-left
 overflow_cast-left c = omega (arith, (lower (goal.at.overflow_cast-left c).Then-sums-ne0).0)
@@ -69,20 +66,19 @@ overflow_sub-left c = (lower (goal.at.overflow_sub-left c).Then-sums-ne0).1
 -- no gap of at least twice the number after `a` is left
 pub returns-then-left-a-eq0 : goal.returns-then-left-a-eq0
 returns-then-left-a-eq0 c =
-    let joined = c in
-    let a : ℕ = joined.loop-a.a in
+    let a : ℕ = c.loop-a.a in
     let twice : 2 * (a + 1) - 1 ≡ a + (a + 1) = omega arith in
-    tried_left _ joined.ranges.word.fits _ _ (tried (goal.at.returns-then-left-a-eq0 c).Joined-sums-ne0) (a + 1) (omega arith) (omega arith)
-    (inr (ap (λ (n : ℕ). joined.if-sums-ne0.left / 2 ^ n) twice ∙ sym (shr-shr joined.if-sums-ne0.left a (a + 1)) ∙ c.if-left-a-eq0.true))
+    tried_left _ c.ranges.word.fits _ _ (tried (goal.at.returns-then-left-a-eq0 c).Joined-sums-ne0) (a + 1) (omega arith) (omega arith)
+    (inr (ap (λ (n : ℕ). c.if-sums-ne0.left / 2 ^ n) twice ∙ sym (shr-shr c.if-sums-ne0.left a (a + 1)) ∙ c.if-left-a-eq0.true))
 
 pub overflow_cast-a : goal.overflow_cast-a
-overflow_cast-a c = omega (arith, zeros-le (goal.at.overflow_cast-a c).Else-left-a-eq0)
+overflow_cast-a c = omega (arith, zeros_le (goal.at.overflow_cast-a c).Else-left-a-eq0)
 
 pub overflow_add-a-in-loop-a : goal.overflow_add-a-in-loop-a
-overflow_add-a-in-loop-a c = omega (arith, zeros-le (goal.at.overflow_add-a-in-loop-a c).Else-left-a-eq0)
+overflow_add-a-in-loop-a c = omega (arith, zeros_le (goal.at.overflow_add-a-in-loop-a c).Else-left-a-eq0)
 
 pub overflow_add-a-in-loop-a-2 : goal.overflow_add-a-in-loop-a-2
-overflow_add-a-in-loop-a-2 c = omega (arith, zeros-le (goal.at.overflow_add-a-in-loop-a-2 c).Else-left-a-eq0)
+overflow_add-a-in-loop-a-2 c = omega (arith, zeros_le (goal.at.overflow_add-a-in-loop-a-2 c).Else-left-a-eq0)
 
 pub loop-a-preserved : goal.loop-a-preserved
 loop-a-preserved c = tried (goal.at.loop-a-preserved c).Joined-sums-ne0

@@ -1,3 +1,4 @@
+-- The loop's invariant: the sums with the elements below `a` are tried, and the gaps below the least one found are left.
 use Prim.Native.Nat.{◌-◌}
 use Rattle.semigroups.proofs.GapSums.{Tried}
 use Rattle.words.proofs.possible_gaps.Given as goal

@@ -15,11 +15,9 @@ use Rattle.words.specs.Looks.{report_of}
 use Rattle.words.proofs.tell.Goals as goal
 use Rattle.words.proofs.tell.Goals.{After-struct_known-1}
 
--- and at most 65, which a signed number holds
+-- the conductor is at most 65, which a signed number holds
 small : (c : After-struct_known-1) → c.conductor_and_multiplicity-both.result.conductor - 1 < 2 ^ 63
-small c =
-    let start = c in
-    omega (arith, c.conductor_and_multiplicity-both.ensures.0, conductor_le start.args.word start.ranges.word.fits)
+small c = omega (arith, c.conductor_and_multiplicity-both.ensures.0, conductor_le c.args.word c.ranges.word.fits)
 
 pub returns-then-word-eq0 : goal.returns-then-word-eq0
 unfolding report_of
@@ -42,9 +40,8 @@ overflow_cast-largest_gap c = record { sfits = small (goal.at.overflow_cast-larg
 pub returns : goal.returns
 unfolding report_of conductor
 returns c =
-    let start = c in
-    let word : ℕ = start.args.word in
-    let fits = start.ranges.word.fits in
+    let word : ℕ = c.args.word in
+    let fits = c.ranges.word.fits in
     let nonzero : word ≢ 0 = c.if-word-eq0.false in
     let known = c.conductor_and_multiplicity-both.ensures in
     let largest : c.conductor_and_multiplicity-both.result.conductor - 1 ≡ largest_gap word = omega (arith, known.0) in
