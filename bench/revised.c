@@ -5,13 +5,8 @@
    Strings are stored as in paper.c. */
 #include <stdint.h>
 
-/* The number of ones. The instruction set has no count of bits, see bench/run: these are the operations that ours has in its place. */
-static uint64_t ones(uint64_t x) {
-  x -= x >> 1 & UINT64_C(0x5555555555555555);
-  x = (x & UINT64_C(0x3333333333333333)) + (x >> 2 & UINT64_C(0x3333333333333333));
-  x = (x + (x >> 4)) & UINT64_C(0x0f0f0f0f0f0f0f0f);
-  return x * UINT64_C(0x0101010101010101) >> 56;
-}
+/* The number of ones. */
+static uint64_t ones(uint64_t x) { return (uint64_t)__builtin_popcountll(x); }
 
 static uint64_t choose3(uint64_t n) { return n * (n - 1) * (n - 2) / 6; }
 
