@@ -11,8 +11,7 @@ use lib.ListN.{length, get_or}
 use borrow.Author.Tests.{le-leb, lt-leb}
 use Rattle.semigroups.specs.Lists.{fronted}
 use Rattle.answers.specs.Answers.{Answer, refused, given, is_given, number_of, answered, ask, ListAnswer, listed, unchanged, filled, into_lent}
-use Rattle.answers.specs.declared.NumberAnswer.{NumberAnswer}
-use Rattle.answers.specs.declared.NumberAnswer.TheVariants as N
+use Rattle.std.specs.Prelude.{Result, Ok}
 use Rattle.answers.specs.declared.Refusal.{Refusal}
 use Rattle.answers.specs.declared.Refusal.TheVariants.{TooManyGaps, NotClosed, GenusTooLarge, WalkOutOfOrder, NotAGenerator, ListTooShort, ZeroGenerator, CommonDivisor, TooManyGapsGenerated, MalformedInput, ZeroCoordinate, CoordinateSumTooLarge, FailedInequality, EditorOutOfOrder, EditorFull, ByteNotHeld, WrongJobVersion, WrongJobLength, WrongJobFields}
 
@@ -184,5 +183,5 @@ module _ (l lent : List ℕ) where
   lent_enough long = rw (le-leb (length l) (length lent) long)
 
   -- the number that is given is theirs
-  pub lent_given : {r : NumberAnswer} {after : List ℕ} (n : ℕ) → listed r after ≡ into_lent l lent → r ≡ N.Given n → n ≡ length l
+  pub lent_given : {r : Result ℕ Refusal} {after : List ℕ} (n : ℕ) → listed r after ≡ into_lent l lent → r ≡ Ok n → n ≡ length l
   lent_given n e g = (tests_given 6 6 6 l lent n true true (leb (length l) (length lent)) (sym (ap (λ (t : ListAnswer). t.answer) e) ∙ ap answered g)).2

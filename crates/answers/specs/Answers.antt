@@ -1,16 +1,10 @@
 -- What the calls answer, by the numbers of the papers: a refusal by the number of its question, or the values that are asked for; and
 -- numbers that go into a lent list. Assumes nothing: these are definitions.
-use Rattle.std.specs.Prelude.{ℕ, Bool, true, false, cond, List, leb, length}
-use Rattle.std.proofs.Math.Option.{Option, none, some}
+use Rattle.std.specs.Prelude.{ℕ, Bool, true, false, cond, List, leb, length, Option, None, Some, Result, Ok, Err}
+use Rattle.std.proofs.Math.Option as maybe
 use Rattle.semigroups.specs.Lists.{fronted}
 use Rattle.answers.specs.declared.Refusal.{Refusal}
 use Rattle.answers.specs.declared.Refusal.TheVariants.{TooManyGaps, NotClosed, GenusTooLarge, WalkOutOfOrder, NotAGenerator, ListTooShort, ZeroGenerator, CommonDivisor, TooManyGapsGenerated, MalformedInput, ZeroCoordinate, CoordinateSumTooLarge, FailedInequality, EditorOutOfOrder, EditorFull, ByteNotHeld, WrongJobVersion, WrongJobLength, WrongJobFields}
-use Rattle.answers.specs.declared.NumberAnswer.{NumberAnswer}
-use Rattle.answers.specs.declared.NumberAnswer.TheVariants as N
-use Rattle.answers.specs.declared.Found.{Found}
-use Rattle.answers.specs.declared.Found.TheVariants as F
-use Rattle.answers.specs.declared.FoundAnswer.{FoundAnswer}
-use Rattle.answers.specs.declared.FoundAnswer.TheVariants as S
 
 -- an answer: refused with the number of the question that is answered no, or given a value
 pub data Answer (A : Type 0) : Type 0 where
@@ -44,20 +38,20 @@ number_of WrongJobVersion = 17
 number_of WrongJobLength = 18
 number_of WrongJobFields = 19
 
--- what the cases of `NumberAnswer` say
-abbrev pub answered : NumberAnswer → Answer ℕ
-answered (N.Refused r) = refused (number_of r)
-answered (N.Given n) = given n
+-- what a `Result` says: refused with the number of its refusal, or its value given
+abbrev pub answered : {A : Type 0} → Result A Refusal → Answer A
+answered (Err r) = refused (number_of r)
+answered (Ok v) = given v
 
--- what the cases of `Found` say: the number, or none
-abbrev pub sought : Found → Option ℕ
-sought (F.Number n) = some n
-sought F.Nothing = none
+-- what is looked for: the number of an `Option`, or none
+abbrev pub sought : Option ℕ → maybe.Option ℕ
+sought (Some n) = maybe.some n
+sought None = maybe.none
 
--- what the cases of `FoundAnswer` say
-abbrev pub sought_answered : FoundAnswer → Answer (Option ℕ)
-sought_answered (S.Refused r) = refused (number_of r)
-sought_answered (S.Given f) = given (sought f)
+-- what the `Result` of a call says that looks for a number
+abbrev pub sought_answered : Result (Option ℕ) Refusal → Answer (maybe.Option ℕ)
+sought_answered (Err r) = refused (number_of r)
+sought_answered (Ok o) = given (sought o)
 
 -- a question before work: what follows where it is answered no, and what where it is answered yes
 abbrev pub ask : {A : Type 0} → Bool → A → A → A
@@ -70,8 +64,8 @@ pub record ListAnswer : Type 0 where
   pub answer : Answer ℕ
   pub list : List ℕ
 
--- what `NumberAnswer` and the list afterwards say
-abbrev pub listed : NumberAnswer → List ℕ → ListAnswer
+-- what the `Result` of a call that gives a number, and the list afterwards, say
+abbrev pub listed : Result ℕ Refusal → List ℕ → ListAnswer
 listed r after = record { answer = answered r; list = after }
 
 -- refused with the number of the question, with nothing written

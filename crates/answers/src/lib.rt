@@ -1,5 +1,5 @@
-// What the calls answer with: the refusals of the atlas, numbers that are given or looked for, and the three counts; and a question about
-// lists of bytes.
+// What the calls answer with: the refusals of the atlas, and the three counts; and a question about lists of bytes. A call that can be
+// refused gives a `Result` with a `Refusal`.
 #![tactic(auto)]
 
 ghost use Rattle.std.specs.Prelude.{◌+◌, ◌-◌, ◌^◌, min, ◌≡◌, ltb};
@@ -23,12 +23,7 @@ impl Element {
     pub fn at_offset(conductor: u64, offset: Offset) -> Element
         ensures { result.0 ≡ min (conductor + offset.0) (2 ^ 64 - 1) }
     {
-        let room = u64::MAX - conductor;
-        if offset.0 <= room {
-            Element(conductor + offset.0)
-        } else {
-            Element(u64::MAX)
-        }
+        Element(conductor.saturating_add(offset.0))
     }
 }
 
@@ -37,7 +32,7 @@ impl Offset {
     pub fn of_element(conductor: u64, element: Element) -> Offset
         ensures { result.0 ≡ element.0 - conductor }
     {
-        Offset(difference(element.0, conductor))
+        Offset(element.0.saturating_sub(conductor))
     }
 }
 
@@ -46,22 +41,12 @@ impl Index {
     pub fn of_conductor(conductor: u64, genus: u64) -> Index
         ensures { result.0 ≡ conductor - genus }
     {
-        Index(difference(conductor, genus))
+        Index(conductor.saturating_sub(genus))
     }
-}
-
-// The first number less the second, and 0 where the second is larger.
-fn difference(from: u64, by: u64) -> u64
-    ensures { result ≡ from - by }
-{
-    if from < by {
-        return 0;
-    }
-    from - by
 }
 
 // What is wrong with the arguments of a call: the question that they fail.
-#[derive(Clone, Copy)]
+#[derive(Clone, Copy, Debug, PartialEq, Eq)]
 pub enum Refusal {
     TooManyGaps,
     NotClosed,
@@ -113,35 +98,9 @@ impl Refusal {
     }
 }
 
-// The answer of a call that gives a number.
-#[derive(Clone, Copy)]
-pub enum NumberAnswer {
-    Refused(Refusal),
-    Given(u64),
-}
-
-// What is looked for, a word or another number: found, or that there is none.
-#[derive(Clone, Copy)]
-pub enum Found {
-    Number(u64),
-    Nothing,
-}
-
-// The answer of a call that looks for a number.
-#[derive(Clone, Copy)]
-pub enum FoundAnswer {
-    Refused(Refusal),
-    Given(Found),
-}
-
 // Are all bytes of a list at least 1?
 pub fn all_positive(list: &[u8]) -> bool
     ensures { result ≡ every (ltb 0) list.now }
 {
-    for i in 0..list.len() {
-        if list[i] == 0 {
-            return false;
-        }
-    }
-    true
+    list.iter().all(|byte| 0 < *byte)
 }

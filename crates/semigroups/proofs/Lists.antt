@@ -15,6 +15,7 @@ use lib.ListN.{length, get_or, take, drop, set, replicate, length-append, length
 use lib.Pow.{pow_mono}
 use lib.Seq.{take-append_seam, drop-append_seam, set-append_seam, drop-cons, drop-append-add, drop-drop, drop_at, take-suc, sets, get_or-append-add, get_or-drop}
 use borrow.Author.Tests.{eq-eqb, ne_eqb, eqb-true, ltb-true, ltb-false, lt-ltb}
+use Rattle.std.specs.List.{list_all}
 use Rattle.semigroups.specs.Lists.{none, run, keep, keep_if, every, joined, sum_over, last_or, begins, fronted, on_from, Ordered}
 use Rattle.semigroups.specs.Words.{digit}
 use Rattle.semigroups.proofs.Booleans.{not_both, is_true, is_false, true_together, by_value, not_and}
@@ -153,6 +154,12 @@ module _ {A : Type 0} where
   every_mem p [] h m = absurd (Memᴰ.not-nil m)
   every_mem p (y ∷ l) h (Memᴰ.head e) = ap p e ∙ ((and-eq-true_iff (p y) (every p l)).0 h).0
   every_mem p (y ∷ l) h (Memᴰ.tail m) = every_mem p l ((and-eq-true_iff (p y) (every p l)).0 h).1 m
+
+  -- as the library's word for it says
+  pub every_list_all : (p : A → Bool) (l : List A) → every p l ≡ list_all p l
+  unfolding every
+  every_list_all p [] = refl
+  every_list_all p (y ∷ l) = ap (λ (b : Bool). p y && b) (every_list_all p l)
 
   pub mem_every : (p : A → Bool) (l : List A) → ((x : A) → Memᴰ x l → p x ≡ true) → every p l ≡ true
   unfolding every
