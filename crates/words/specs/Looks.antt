@@ -4,10 +4,8 @@ use Rattle.std.specs.Prelude.{ℕ, ◌≤◌, ◌≡◌, true, List, leb}
 use Rattle.semigroups.specs.Sets.{Set, HasGenus, MultiplicityOf, SignedLargestGapOf, ReportedConductorOf}
 use Rattle.semigroups.specs.Words.{genus, reported_conductor, signed_largest_gap, closed}
 use Rattle.semigroups.specs.Elements.{multiplicity}
-use Rattle.answers.specs.Answers.{Answer, refused, given, ask, number_of, ListAnswer, unchanged, into_lent}
+use Rattle.answers.specs.Answers.{Answer, refused, given, ask, ListAnswer, unchanged, into_lent}
 use Rattle.words.specs.declared.Report.{Report}
-use Rattle.words.specs.declared.LookAnswer.{LookAnswer}
-use Rattle.words.specs.declared.LookAnswer.TheVariants as L
 
 -- questions 1 and 2: has the word at most 32 gaps, and is its set closed under addition
 unfoldable pub ask_word : {A : Type 0} → (ℕ → A) → ℕ → A → A
@@ -34,11 +32,6 @@ pub record Tells (r : Report) (S : Set) : Type 0 where
 -- a look: questions 1 and 2
 unfoldable pub look_of : ℕ → Answer Report
 look_of w = ask_word refused w (given (report_of w))
-
--- what the cases of `LookAnswer` say
-abbrev pub looked : LookAnswer → Answer Report
-looked (L.Refused r) = refused (number_of r)
-looked (L.Given r) = given r
 
 -- ---- numbers of a word into a lent list
 

@@ -6,10 +6,10 @@ ghost use Rattle.semigroups.specs.Words.{genus, conductor, closed};
 ghost use Rattle.semigroups.specs.Elements.{multiplicity};
 ghost use Rattle.semigroups.specs.Openings.{opening_of};
 ghost use Rattle.semigroups.specs.GapSums.{least_gap_sum};
-ghost use Rattle.answers.specs.Answers.{sought};
-ghost use Rattle.words.specs.Looks.{looked, report_of, look_of};
+ghost use Rattle.answers.specs.Answers.{answered, sought};
+ghost use Rattle.words.specs.Looks.{report_of, look_of};
 
-use answers::{Found, Refusal};
+use answers::Refusal;
 
 // What is told of a word: the conductor is the reported one, 0 where there is no gap, and the largest gap is then -1.
 #[derive(Clone, Copy)]
@@ -25,13 +25,6 @@ pub struct Report {
 pub struct ConductorAndMultiplicity {
     pub conductor: u64,
     pub multiplicity: u64,
-}
-
-// The answer to a look at a word.
-#[derive(Clone, Copy)]
-pub enum LookAnswer {
-    Refused(Refusal),
-    Given(Report),
 }
 
 // The number of gaps of any word: the standing bits.
@@ -104,14 +97,14 @@ fn is_closed(word: u64) -> bool
 
 // The shortest impossible opening of any word, with any number of gaps: the least n such that the n smallest gaps are not the gaps of a
 // semigroup, or that there is none. The last of these gaps is the least one that is a sum of two positive elements.
-pub fn opening(word: u64) -> Found
+pub fn opening(word: u64) -> Option<u64>
     ensures { sought result ≡ opening_of word }
 {
     let left = possible_gaps(word);
     if left == word {
-        return Found::Nothing;
+        return None;
     }
-    Found::Number(genus_of(left) + 1)
+    Some(genus_of(left) + 1)
 }
 
 // What is told of any word, accepted or not: the word 0 has no gap, and of every other word the reported conductor is that of source 000.
@@ -139,15 +132,15 @@ pub fn tell(word: u64) -> Report
 }
 
 // Looks at a word: refused with more than 32 gaps or a set that is not closed under addition, else what is told of it.
-pub fn look(word: u64) -> LookAnswer
-    ensures { looked result ≡ look_of word }
+pub fn look(word: u64) -> Result<Report, Refusal>
+    ensures { answered result ≡ look_of word }
 {
     let genus = genus_of(word);
     if 32 < genus {
-        return LookAnswer::Refused(Refusal::TooManyGaps);
+        return Err(Refusal::TooManyGaps);
     }
     if !is_closed(word) {
-        return LookAnswer::Refused(Refusal::NotClosed);
+        return Err(Refusal::NotClosed);
     }
-    LookAnswer::Given(tell(word))
+    Ok(tell(word))
 }
