@@ -7,15 +7,15 @@ ghost use Rattle.semigroups.specs.Lists.{every};
 ghost use Rattle.answers.specs.Answers.{number_of};
 
 // An element of a set.
-#[derive(Clone, Copy)]
+#[derive(Clone, Copy, Debug, PartialEq, Eq)]
 pub struct Element(pub u64);
 
 // An index in the list of elements.
-#[derive(Clone, Copy)]
+#[derive(Clone, Copy, Debug, PartialEq, Eq)]
 pub struct Index(pub u64);
 
 // An offset from the conductor.
-#[derive(Clone, Copy)]
+#[derive(Clone, Copy, Debug, PartialEq, Eq)]
 pub struct Offset(pub u64);
 
 impl Element {

@@ -52,15 +52,15 @@ fresh_saved g lo hi n =
 
 module _ (m : ℕ) (value : ℕ → ℕ) (g lo hi : ℕ) (genus_said : g ≡ value 0) (lowest-said : lo ≡ value_or 1 m value 1) (highest-said : hi ≡ value_or 33 m value 2) where
   -- with the finished mark, a finished walk
-  pub said_finished : bit m 5 ≡ true → record { genus = g; word = 0; lowest = lo; highest = hi; finished = true } ≡ walk_said m value
+  pub said_finished : bit m 5 ≡ true → record { genus = g; word = 0; window = record { lowest = lo; highest = hi }; finished = true } ≡ walk_said m value
   unfolding walk_said placed_by standing none
-  said_finished e = rw e (λ i. record { genus = genus_said i; word = 0; lowest = lowest-said i; highest = highest-said i; finished = true })
+  said_finished e = rw e (λ i. record { genus = genus_said i; word = 0; window = record { lowest = lowest-said i; highest = highest-said i }; finished = true })
 
   -- with a next word, a walk on it
   pub said_on_word : (x : ℕ) → x ≡ value 3 → bit m 5 ≡ false → bit m 3 ≡ true
-      → record { genus = g; word = x; lowest = lo; highest = hi; finished = false } ≡ walk_said m value
+      → record { genus = g; word = x; window = record { lowest = lo; highest = hi }; finished = false } ≡ walk_said m value
   unfolding walk_said placed_by
-  said_on_word x word-said e f = rw (e, f) (λ i. record { genus = genus_said i; word = word-said i; lowest = lowest-said i; highest = highest-said i; finished = false })
+  said_on_word x word-said e f = rw (e, f) (λ i. record { genus = genus_said i; word = word-said i; window = record { lowest = lowest-said i; highest = highest-said i }; finished = false })
 
   -- with neither, the fresh walk, which is in order
   pub said_fresh : (n : ℕ) → bit m 5 ≡ false → bit m 3 ≡ false → with_written n (fresh_in_of g lo hi) ≡ saved_of (walk_said m value) n

@@ -27,7 +27,7 @@ complete m = bit m 0 && not (bit m 3 && bit m 5)
 unfoldable pub placed_by : ℕ → ℕ → ℕ → ℕ → ℕ → Walk
 placed_by m x g lo hi =
     cond (bit m 5) (standing g lo hi [])
-    (cond (bit m 3) record { genus = g; word = x; lowest = lo; highest = hi; finished = false }
+    (cond (bit m 3) record { genus = g; word = x; window = record { lowest = lo; highest = hi }; finished = false }
     (standing g lo hi (window_list g lo hi)))
 
 -- the walk that the fields say: an absent lowest multiplicity is 1, and an absent highest one 33
@@ -65,7 +65,7 @@ map_for finished = of_bits (true ∷ true ∷ true ∷ not finished ∷ true ∷
 
 -- the values of the fields, by rising bit: the version is 2
 unfoldable pub field_for : Walk → ℕ → ℕ → ℕ
-field_for w n i = get_or (w.genus ∷ w.lowest ∷ w.highest ∷ w.word ∷ n ∷ 0 ∷ 0 ∷ 2 ∷ []) i 0
+field_for w n i = get_or (w.genus ∷ w.window.lowest ∷ w.window.highest ∷ w.word ∷ n ∷ 0 ∷ 0 ∷ 2 ∷ []) i 0
 
 -- the job of a walk and a number written
 unfoldable pub job_of : Walk → ℕ → List ℕ

@@ -129,7 +129,7 @@ pub record Batched (l : Listing) (lent words : List ℕ) (r : Written) (after : 
   pub order : in_order l.walk ≡ true
   pub count : r.count ≡ min (lines_within l.headed (length lent)) (length (rest l.walk))
   pub finished : r.finished ≡ none (drop r.count (rest l.walk))
-  pub walk : after ≡ standing l.walk.genus l.walk.lowest l.walk.highest (drop r.count (rest l.walk))
+  pub walk : after ≡ standing l.walk.genus l.walk.window.lowest l.walk.window.highest (drop r.count (rest l.walk))
   pub within : r.count ≤ length words
   pub next : take r.count words ≡ take r.count (rest l.walk)
 
@@ -160,7 +160,7 @@ batched l lent words k full room most a after list r answers e₀ =
       order = order;
       count = sym counted ∙ ap (λ (m : ℕ). min m (length R)) (places ∙ fit);
       finished = ap (λ (t : Written). t.finished) told ∙ ap (λ (m : ℕ). none (drop m R)) counted;
-      walk = ap (λ (d : Ending). d.walk) ends ∙ ap (λ (m : ℕ). standing l.walk.genus l.walk.lowest l.walk.highest (drop m R)) counted;
+      walk = ap (λ (d : Ending). d.walk) ends ∙ ap (λ (m : ℕ). standing l.walk.genus l.walk.window.lowest l.walk.window.highest (drop m R)) counted;
       within = subst (λ (m : ℕ). m ≤ length (list ++ drop k words)) counted all;
       next = subst (λ (m : ℕ). take m (list ++ drop k words) ≡ take m R) counted nexts;
     }
@@ -183,7 +183,7 @@ module _ (l : Listing) (lent words : List ℕ) (room : 64 ≤ length lent) (r : 
       let R : List ℕ = rest l.walk in
       let made : ℕ → List ℕ → Turn = λ n text. record {
         answer = given record { bytes = length text; finished = none (drop n R) };
-        listing = record { headed = true; walk = standing g l.walk.lowest l.walk.highest (drop n R) };
+        listing = record { headed = true; walk = standing g l.walk.window.lowest l.walk.window.highest (drop n R) };
         list = fronted text lent;
       } in
       let texts : page_text ≡ heading_of l.headed g ++ joined line_of (take (min (lines_within l.headed (length lent)) (length R)) R) =
@@ -231,6 +231,6 @@ module _ (l : Listing) (lent : List ℕ) (p : Page) {t : Turn} (e : t ≡ page_o
   page_falls room more =
       let (k, split) = rest_end l.walk in
       let left : rest t.listing.walk ≡ drop n R =
-      ap (λ (u : Turn). rest u.listing.walk) ends ∙ rest_standing l.walk.genus l.walk.lowest l.walk.highest (k ++ take n R) (drop n R) (end_drop n k R split) in
+      ap (λ (u : Turn). rest u.listing.walk) ends ∙ rest_standing l.walk.genus l.walk.window.lowest l.walk.window.highest (k ++ take n R) (drop n R) (end_drop n k R split) in
       let some : 0 < length (drop n R) = none_left (drop n R) (ap (λ (q : Page). q.finished) (sym tells) ∙ more) in
       omega (arith, ap length left, length-drop n R, lines_some l.headed (length lent) room)

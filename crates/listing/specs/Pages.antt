@@ -65,7 +65,7 @@ page_written l r lent =
     let text : List ℕ = heading_of l.headed g ++ joined line_of (take n r) in
     record {
       answer = given record { bytes = length text; finished = none (drop n r) };
-      listing = record { headed = true; walk = standing g l.walk.lowest l.walk.highest (drop n r) };
+      listing = record { headed = true; walk = standing g l.walk.window.lowest l.walk.window.highest (drop n r) };
       list = fronted text lent;
     }
 
