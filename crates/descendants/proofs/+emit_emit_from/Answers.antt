@@ -2,7 +2,7 @@
 use Rattle.std.proofs.Common.{ℕ, sym, ap, ◌∙◌, arith}
 use Rattle.nodes.specs.Branches.{branches}
 use Rattle.nodes.proofs.Levels.{node_conductor}
-use Rattle.nodes.proofs.NewGaps.{upper_equal, upper_lowest, upper_again}
+use Rattle.nodes.proofs.NewGaps.{upper_lowest, upper_again}
 use Rattle.nodes.proofs.Childless.{upper_offsets, childless_branches}
 use Rattle.nodes.proofs.Branches.{branches_none, Row, row_branches, no_leaves, FirstChild, first_child}
 use Rattle.lending.specs.Lending.{put_all}
@@ -25,13 +25,6 @@ emit-put_grandchildren-requires-clause-word_bound t c =
 pub emit-put_great_grandchildren-requires-clause-word_bound : goal.emit-put_great_grandchildren-requires-clause-word_bound
 emit-put_great_grandchildren-requires-clause-word_bound t c =
     omega (arith, c.second_element.ensures, node_conductor _ _ c.requires.node_with_levels)
-
--- else the words below its first row
-pub emit-emit_from-requires : goal.emit-emit_from-requires
-emit-emit_from-requires t c =
-    let row : Row c.args.left c.args.n c.first_row-row.result =
-    row_branches _ _ (λ e. omega (arith, c.requires.le_left)) c.requires.node_with_levels c.first_row-row.ensures in
-    (omega arith, (row.node_levels, upper_equal (omega arith) c.first_row-row.ensures))
 
 pub emit-returns : goal.emit-returns
 emit-returns t c =

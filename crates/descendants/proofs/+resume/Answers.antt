@@ -3,7 +3,6 @@ use Rattle.std.proofs.Common.{◌≡◌, ℕ, ◌<◌, ◌≤◌, ap, ◌∙◌,
 use Rattle.semigroups.specs.Positions.{above}
 use Rattle.semigroups.specs.Elements.{multiplicity}
 use Rattle.nodes.specs.Nodes.{first_row}
-use Rattle.nodes.proofs.NewGaps.{upper_above}
 use Rattle.lending.proofs.Lending.{put_stops, put_follows}
 use Rattle.descendants.proofs.Resuming.{on_from_own, Below, next_child}
 use Rattle.descendants.proofs.Cut.{later_parts, later_cut, later_kept, kept_own}
@@ -44,14 +43,6 @@ returns-then-multiplicity_of-lowest t c =
 
 pub later-requires : goal.later-requires
 later-requires t c = omega (arith, (found (goal.at.later-requires t c).After-next_offset-d).near)
-
-pub emit_from-requires : goal.emit_from-requires
-emit_from-requires t c =
-    let at = goal.at.emit_from-requires t c in
-    record {
-      node_with_levels = (found at.After-next_offset-d).node_levels;
-      upper = upper_above _ (omega (arith, c.first_row.ensures)) (after at.After-later);
-    }
 
 -- otherwise they follow
 pub returns : goal.returns

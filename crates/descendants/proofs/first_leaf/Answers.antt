@@ -1,9 +1,7 @@
 -- `descendants::first_leaf` meets its contract: in a list without places the first word finds no room. Assumes nothing.
 use Rattle.std.proofs.Common.{rules}
-use native.Mathlib.Omega.{arith}
 use Rattle.semigroups.specs.Tree.{leaves}
 use Rattle.nodes.proofs.Branches.{Row, row_branches}
-use Rattle.nodes.proofs.NewGaps.{upper_equal}
 use Rattle.lending.proofs.Lending.{put_nowhere}
 use Rattle.descendants.proofs.first_leaf.Goals as goal
 use Rattle.descendants.proofs.first_leaf.Goals.{After-first_row}
@@ -16,12 +14,6 @@ row c = row_branches _ _ c.if-left-eq0.false c.requires c.first_row.ensures
 pub returns-then-left-eq0 : goal.returns-then-left-eq0
 unfolding leaves
 returns-then-left-eq0 c = rw c.if-left-eq0.true
-
-pub emit_from-requires : goal.emit_from-requires
-emit_from-requires c = record {
-  node_with_levels = (row (goal.at.emit_from-requires c).After-first_row).node_levels;
-  upper = upper_equal (omega arith) c.first_row.ensures;
-}
 
 pub returns : goal.returns
 returns c =

@@ -9,10 +9,10 @@ use Rattle.semigroups.specs.Positions.{positions}
 use Rattle.semigroups.specs.Tree.{leaves}
 use Rattle.nodes.specs.NewGaps.{gap_branches}
 use Rattle.nodes.proofs.Branches.{TakenOff}
-use Rattle.nodes.proofs.NewGaps.{upper_all, upper_lowest, upper_bit, upper_again, gap_branches_none, gap_branches_first, gap_word}
+use Rattle.nodes.proofs.NewGaps.{upper_lowest, upper_bit, upper_again, gap_branches_none, gap_branches_first, gap_word}
 use Rattle.nodes.proofs.MovedRows.{child_row_computed, two_rows_low, two_levels_below, two_rows_fit, one_level_below, child_bits_fit}
 use Rattle.lending.specs.Lending.{put_all, with_each}
-use Rattle.lending.proofs.Lending.{putting_all, putting_none, putting_stops, putting_on}
+use Rattle.lending.proofs.Lending.{putting_none, putting_stops, putting_on}
 use Rattle.descendants.proofs.NewWords.{gap_words}
 use Rattle.descendants.proofs.put_by_rows.Goals as goal
 use Rattle.descendants.proofs.put_by_rows.Goals.{After-lowest_of-low, After-put_bits}
@@ -39,12 +39,6 @@ put c =
     ∙ ap (λ (l : List ℕ). put_all l (now.out, Ok now.at))
     (gap_words _ _ (child_bits_fit c.requires.two_rows one) ∙ sym (one_level_below c.requires.two_rows one))
 
-pub loop-rest-init : goal.loop-rest-init
-loop-rest-init c = (upper_all c.ranges.generators.fits, putting_all)
-
-pub overflow_sub-e : goal.overflow_sub-e
-overflow_sub-e c = omega (arith, (lowest (goal.at.overflow_sub-e c).After-lowest_of-low).fewer)
-
 pub overflow_add-word : goal.overflow_add-word
 overflow_add-word c =
     let low = (goal.at.overflow_add-word c).After-lowest_of-low in
@@ -58,9 +52,6 @@ returns-in_err-at c =
     let at = goal.at.returns-in_err-at c in
     rw (two_levels_below c.requires.two_rows)
     (putting_stops c.loop-rest.invariant.1 _ _ (gap_branches_first _ (lowest at.After-lowest_of-low) 1) c.from_residual.ensures.1 (rw c.in_err-at.was at (put at.After-put_bits)))
-
-pub loop-rest-smaller : goal.loop-rest-smaller
-loop-rest-smaller c = (lowest (goal.at.loop-rest-smaller c).After-lowest_of-low).fewer
 
 pub loop-rest-preserved : goal.loop-rest-preserved
 loop-rest-preserved c =

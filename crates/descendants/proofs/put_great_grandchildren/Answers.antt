@@ -3,8 +3,6 @@
 use Prim.Native.Nat.{ℕ, suc, ◌*◌, ◌-◌, ◌%◌, ◌^◌}
 use mathlib.Core.Path.{◌≡◌, ap, ◌∙◌}
 use native.Mathlib.Omega.{arith}
-use native.Mathlib.Nat.{mod-lt}
-use lib.Pow.{pow_pos}
 use Rattle.std.specs.Prelude.{Ok}
 use Rattle.semigroups.specs.Words.{child_word}
 use Rattle.semigroups.specs.Tree.{leaves}
@@ -12,10 +10,10 @@ use Rattle.nodes.specs.NewGaps.{gap_branches, ThreeRows}
 use Rattle.nodes.proofs.Levels.{conductor_within}
 use Rattle.nodes.proofs.Rows.{second_above}
 use Rattle.nodes.proofs.Branches.{TakenOff}
-use Rattle.nodes.proofs.NewGaps.{upper_all, upper_lowest, upper_bit, upper_again, gap_branches_none, gap_branches_first, gap_word}
+use Rattle.nodes.proofs.NewGaps.{upper_lowest, upper_bit, upper_again, gap_branches_none, gap_branches_first, gap_word}
 use Rattle.nodes.proofs.MovedRows.{three_rows_low, three_levels_below, three_rows_fit, child_two_rows_computed, node_three_rows}
 use Rattle.lending.specs.Lending.{put_all}
-use Rattle.lending.proofs.Lending.{putting_all, putting_none, putting_stops, putting_on}
+use Rattle.lending.proofs.Lending.{putting_none, putting_stops, putting_on}
 use Rattle.descendants.proofs.put_great_grandchildren.Goals as goal
 use Rattle.descendants.proofs.put_great_grandchildren.Goals.{After-first_row, After-lowest_of-low, After-put_by_rows}
 
@@ -60,12 +58,6 @@ overflow_shl-last c = omega (arith, conductor_within 3 _ c.requires.node_with_le
 pub overflow_shl-rest : goal.overflow_shl-rest
 overflow_shl-rest c = omega (arith, conductor_within 3 _ c.requires.node_with_levels)
 
-pub loop-rest-init : goal.loop-rest-init
-loop-rest-init c = (upper_all (mod-lt _ (pow_pos 64)), putting_all)
-
-pub overflow_sub-e : goal.overflow_sub-e
-overflow_sub-e c = omega (arith, (lowest (goal.at.overflow_sub-e c).After-lowest_of-low).fewer)
-
 -- it is one of the generators, so that the word without it fits
 pub overflow_add-w : goal.overflow_add-w
 overflow_add-w c =
@@ -89,9 +81,6 @@ returns-in_err-at c =
     let at = goal.at.returns-in_err-at c in
     rw (three_levels_below (rows at.After-first_row))
     (putting_stops c.loop-rest.invariant.1 _ _ (gap_branches_first _ (lowest at.After-lowest_of-low) 2) c.from_residual.ensures.1 (rw c.in_err-at.was at (put at.After-put_by_rows)))
-
-pub loop-rest-smaller : goal.loop-rest-smaller
-loop-rest-smaller c = (lowest (goal.at.loop-rest-smaller c).After-lowest_of-low).fewer
 
 pub loop-rest-preserved : goal.loop-rest-preserved
 loop-rest-preserved c =

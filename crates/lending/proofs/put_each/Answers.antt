@@ -22,9 +22,6 @@ loop-rest-init c = (putting_all, omega (arith, positions_le c.args.bits, c.requi
 pub bounds-out-at : goal.bounds-out-at
 bounds-out-at c = omega (arith, room (goal.at.bounds-out-at c).After-lowest_of-low)
 
-pub overflow_add-at : goal.overflow_add-at
-overflow_add-at c = omega (arith, room (goal.at.overflow_add-at c).After-lowest_of-low)
-
 pub loop-rest-preserved : goal.loop-rest-preserved
 loop-rest-preserved c =
     let low = (goal.at.loop-rest-preserved c).After-lowest_of-low in
