@@ -16,8 +16,8 @@ ghost use Rattle.nodes.specs.NewGaps.{TwoRows};
 ghost use Rattle.census.specs.Census.{census_of};
 ghost use Rattle.census.specs.Private.{census_place, blank, one_more_at, tallied, ArePlaces, RoomFor, conductors_in};
 
-use answers::{NumberAnswer, Refusal};
-use nodes::Node;
+use answers::Refusal;
+use nodes::{Bits, Node};
 
 // Sets the 2,210 places to 0.
 fn clear_places(out: &mut [u64])
@@ -54,12 +54,8 @@ fn tally_bits(first: u64, bits: u64, out: &mut [u64])
     requires room_for { RoomFor (length (positions bits)) out.old }
     ensures { out.new ≡ tallied (map (λ i. first + i) (positions bits)) out.old }
 {
-    let mut rest = bits;
-    while rest != 0 {
-        let low = nodes::lowest_of(rest);
-        let at = low.at;
-        add_one(first + at.0, out);
-        rest = low.rest;
+    for low in Bits(bits) {
+        add_one(first + low.at.0, out);
     }
 }
 
@@ -167,16 +163,16 @@ fn sum_of_conductors(out: &[u64]) -> u64
 // The census of a genus: place 65 m + c of the lent list gets the number of semigroups with multiplicity m and reported conductor c, for m
 // from 0 to 33 and c from 0 to 64, and the sum of all conductors is given. Refused above genus 32 and with fewer than 2,210 places: then
 // nothing is written.
-pub fn census(genus: u64, out: &mut [u64]) -> NumberAnswer
+pub fn census(genus: u64, out: &mut [u64]) -> Result<u64, Refusal>
     ensures { listed result out.new ≡ census_of genus out.old }
 {
     if 32 < genus {
-        return NumberAnswer::Refused(Refusal::GenusTooLarge);
+        return Err(Refusal::GenusTooLarge);
     }
     if out.len() < 2210 {
-        return NumberAnswer::Refused(Refusal::ListTooShort);
+        return Err(Refusal::ListTooShort);
     }
     clear_places(out);
     tally(Node::root(), genus, out);
-    NumberAnswer::Given(sum_of_conductors(out))
+    Ok(sum_of_conductors(out))
 }
