@@ -11,7 +11,7 @@ use lib.ListN.{length, get_or}
 use borrow.Author.Tests.{le-leb, lt-leb}
 use Rattle.semigroups.specs.Lists.{fronted}
 use Rattle.answers.specs.Answers.{Answer, refused, given, is_given, number_of, answered, ask, ListAnswer, listed, unchanged, filled, into_lent}
-use Rattle.std.specs.Prelude.{Result, Ok}
+use Rattle.std.specs.Prelude.{Result, Ok, Err, IsErrAnd}
 use Rattle.answers.specs.declared.Refusal.{Refusal}
 use Rattle.answers.specs.declared.Refusal.TheVariants.{TooManyGaps, NotClosed, GenusTooLarge, WalkOutOfOrder, NotAGenerator, ListTooShort, ZeroGenerator, CommonDivisor, TooManyGapsGenerated, MalformedInput, ZeroCoordinate, CoordinateSumTooLarge, FailedInequality, EditorOutOfOrder, EditorFull, ByteNotHeld, WrongJobVersion, WrongJobLength, WrongJobFields}
 
@@ -74,6 +74,13 @@ number_range ByteNotHeld = omega arith
 number_range WrongJobVersion = omega arith
 number_range WrongJobLength = omega arith
 number_range WrongJobFields = omega arith
+
+-- ---- a refusal that is handed on
+
+-- what a `?` hands on is refused with the same number
+pub handed_on : {A : Type 0} (r : Result A Refusal) (e : Refusal) {a : Answer A} → IsErrAnd r (λ d. d ≡ e) → refused (number_of e) ≡ a → answered r ≡ a
+handed_on (Ok v) e h same = absurd h
+handed_on (Err d) e h same = ap (λ (r : Refusal). refused (number_of r)) h ∙ same
 
 -- ---- questions
 

@@ -5,29 +5,15 @@ use Rattle.semigroups.specs.Words.{genus, conductor, child_word}
 use Rattle.semigroups.specs.Elements.{generator}
 use Rattle.seeds.specs.Seeds.{first_row_ones, seed_table}
 use Rattle.seeds.specs.Grandchildren.{grandchild_count}
-use Rattle.answers.specs.Answers.{Answer, refused, given, is_given, number_of, ask}
+use Rattle.answers.specs.Answers.{Answer, refused, given, is_given, ask}
 use Rattle.words.specs.Looks.{ask_word}
 use Rattle.nodes.specs.Nodes.{node_of}
 use Rattle.nodes.specs.declared.Node.{Node}
-use Rattle.tables.specs.declared.NodeAnswer.{NodeAnswer}
-use Rattle.tables.specs.declared.NodeAnswer.TheVariants as N
 use Rattle.tables.specs.declared.Table.{Table}
-use Rattle.tables.specs.declared.TableAnswer.{TableAnswer}
-use Rattle.tables.specs.declared.TableAnswer.TheVariants as T
-
--- what the cases of `NodeAnswer` say
-abbrev pub noded : NodeAnswer → Answer Node
-noded (N.Refused r) = refused (number_of r)
-noded (N.Given n) = given n
 
 -- the node of a word: questions 1 and 2
 unfoldable pub node_answer : ℕ → Answer Node
 node_answer w = ask_word refused w (given (node_of w))
-
--- what the cases of `TableAnswer` say
-abbrev pub tabled : TableAnswer → Answer Table
-tabled (T.Refused r) = refused (number_of r)
-tabled (T.Given t) = given t
 
 -- the seed table of a word with the number of 1s in its row 0, at genus 32 too: questions 1 and 2
 unfoldable pub table_of : ℕ → Answer Table
