@@ -68,12 +68,9 @@ fn tally_by_rows(word: u64, generators: u64, seeds: u64, out: &mut [u64])
 {
     let m = words::multiplicity_of(word);
     let first = 65 * m + 2;
-    let mut rest = generators;
-    while rest != 0 {
-        let low = nodes::lowest_of(rest);
-        let e = rest - low.rest;
+    for low in Bits(generators) {
+        let e = 1 << low.at.0;
         tally_bits(first, low.rest | (seeds & e) << m, out);
-        rest = low.rest;
     }
 }
 
@@ -100,19 +97,17 @@ fn tally_great_grandchildren(n: Node, out: &mut [u64])
     let up = n.conductor - 1;
     let m = words::multiplicity_of(w);
     let u = n.second_element() - m;
+    let generators = n.first_row() << up;
     let seeds = n.second_row() << up;
     let last = n.third_row() << up;
-    let mut rest = n.first_row() << up;
-    while rest != 0 {
-        let low = nodes::lowest_of(rest);
-        let e = rest - low.rest;
+    for low in Bits(generators) {
+        let e = 1 << low.at.0;
         tally_by_rows(
             w + e,
             low.rest | (seeds & e) << m,
             seeds | (last & e) << u,
             out,
         );
-        rest = low.rest;
     }
 }
 
@@ -138,12 +133,8 @@ fn tally(n: Node, left: u64, out: &mut [u64])
             return;
         }
     }
-    let mut bits = n.first_row();
-    while bits != 0 {
-        let d = nodes::lowest_of(bits);
-        let at = d.at;
-        tally(n.child(at), left - 1, out);
-        bits = d.rest;
+    for low in Bits(n.first_row()) {
+        tally(n.child(low.at), left - 1, out);
     }
 }
 
