@@ -13,10 +13,10 @@ use Rattle.semigroups.specs.Tree.{leaves}
 use Rattle.semigroups.proofs.Lists.{joined_each, map_same}
 use Rattle.semigroups.proofs.Elements.{multiplicity_below}
 use Rattle.semigroups.proofs.Tree.{multiplicity_stays}
-use Rattle.nodes.specs.Nodes.{lowest_offset}
+use Rattle.nodes.specs.Nodes.{TakenOff}
 use Rattle.nodes.specs.NewGaps.{gap_branches, moved_row_of_child, TwoRows, Upper}
 use Rattle.nodes.proofs.Branches.{child_of_generator, leaf_below}
-use Rattle.nodes.proofs.NewGaps.{upper_all, upper_lowest, upper_again, gap_branches_none, gap_branches_first}
+use Rattle.nodes.proofs.NewGaps.{upper_all, upper_left, gap_branches_none, gap_branches_first}
 use Rattle.nodes.proofs.MovedRows.{bit_generator, child_told, one_level_below}
 use Rattle.census.specs.Private.{census_place, tallied, ArePlaces, RoomFor}
 use Rattle.census.proofs.Tallies.{InParts, Tallying, tally_begins, room_first, tally_again, tally_ends}
@@ -37,10 +37,10 @@ gaps_begin fits all room = record { upper = upper_all fits; words = tally_begins
 
 module _ {r w generators rest : ℕ} {o₀ o : List ℕ} (at : TallyingGaps r w generators o₀ rest o) where
   -- i is the lowest bit of those that are left
-  module _ (some : 0 < rest) {i others : ℕ} (low : (i ≡ lowest_offset rest) × (others ≡ rest - 2 ^ lowest_offset rest)) where
+  module _ {i others : ℕ} (low : TakenOff rest i others) where
     -- the words below the child there come first
     parts : InParts (leaves r (child_word w (suc i))) (gap_branches r w others) (gap_branches r w rest)
-    parts = record { split = gap_branches_first w (upper_lowest at.upper some low) r }
+    parts = record { split = gap_branches_first w low r }
 
     -- there is room for them
     pub gap_room : RoomFor (length (leaves r (child_word w (suc i)))) o
@@ -48,7 +48,7 @@ module _ {r w generators rest : ℕ} {o₀ o : List ℕ} (at : TallyingGaps r w 
 
     -- after them the others are left
     pub gaps_again : {p : List ℕ} → p ≡ tallied (map census_place (leaves r (child_word w (suc i)))) o → TallyingGaps r w generators o₀ others p
-    gaps_again done = record { upper = upper_again at.upper some low; words = tally_again at.words parts done }
+    gaps_again done = record { upper = upper_left at.upper low; words = tally_again at.words parts done }
 
   -- at last none is left
   pub gaps_end : rest ≡ 0 → o ≡ tallied (map census_place (leaves (suc r) w)) o₀

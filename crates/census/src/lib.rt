@@ -16,8 +16,8 @@ ghost use Rattle.nodes.specs.NewGaps.{TwoRows};
 ghost use Rattle.census.specs.Census.{census_of};
 ghost use Rattle.census.specs.Private.{census_place, blank, one_more_at, tallied, ArePlaces, RoomFor, conductors_in};
 
-use answers::{NumberAnswer, Refusal};
-use nodes::Node;
+use answers::Refusal;
+use nodes::{Bits, Node};
 
 // Sets the 2,210 places to 0.
 fn clear_places(out: &mut [u64])
@@ -54,12 +54,8 @@ fn tally_bits(first: u64, bits: u64, out: &mut [u64])
     requires room_for { RoomFor (length (positions bits)) out.old }
     ensures { out.new ≡ tallied (map (λ i. first + i) (positions bits)) out.old }
 {
-    let mut rest = bits;
-    while rest != 0 {
-        let low = nodes::lowest_of(rest);
-        let at = low.at;
-        add_one(first + at.0, out);
-        rest = low.rest;
+    for low in Bits(bits) {
+        add_one(first + low.at.0, out);
     }
 }
 
@@ -72,12 +68,9 @@ fn tally_by_rows(word: u64, generators: u64, seeds: u64, out: &mut [u64])
 {
     let m = words::multiplicity_of(word);
     let first = 65 * m + 2;
-    let mut rest = generators;
-    while rest != 0 {
-        let low = nodes::lowest_of(rest);
-        let e = rest - low.rest;
+    for low in Bits(generators) {
+        let e = 1 << low.at.0;
         tally_bits(first, low.rest | (seeds & e) << m, out);
-        rest = low.rest;
     }
 }
 
@@ -104,19 +97,17 @@ fn tally_great_grandchildren(n: Node, out: &mut [u64])
     let up = n.conductor - 1;
     let m = words::multiplicity_of(w);
     let u = n.second_element() - m;
+    let generators = n.first_row() << up;
     let seeds = n.second_row() << up;
     let last = n.third_row() << up;
-    let mut rest = n.first_row() << up;
-    while rest != 0 {
-        let low = nodes::lowest_of(rest);
-        let e = rest - low.rest;
+    for low in Bits(generators) {
+        let e = 1 << low.at.0;
         tally_by_rows(
             w + e,
             low.rest | (seeds & e) << m,
             seeds | (last & e) << u,
             out,
         );
-        rest = low.rest;
     }
 }
 
@@ -142,12 +133,8 @@ fn tally(n: Node, left: u64, out: &mut [u64])
             return;
         }
     }
-    let mut bits = n.first_row();
-    while bits != 0 {
-        let d = nodes::lowest_of(bits);
-        let at = d.at;
-        tally(n.child(at), left - 1, out);
-        bits = d.rest;
+    for low in Bits(n.first_row()) {
+        tally(n.child(low.at), left - 1, out);
     }
 }
 
@@ -167,16 +154,16 @@ fn sum_of_conductors(out: &[u64]) -> u64
 // The census of a genus: place 65 m + c of the lent list gets the number of semigroups with multiplicity m and reported conductor c, for m
 // from 0 to 33 and c from 0 to 64, and the sum of all conductors is given. Refused above genus 32 and with fewer than 2,210 places: then
 // nothing is written.
-pub fn census(genus: u64, out: &mut [u64]) -> NumberAnswer
+pub fn census(genus: u64, out: &mut [u64]) -> Result<u64, Refusal>
     ensures { listed result out.new ≡ census_of genus out.old }
 {
     if 32 < genus {
-        return NumberAnswer::Refused(Refusal::GenusTooLarge);
+        return Err(Refusal::GenusTooLarge);
     }
     if out.len() < 2210 {
-        return NumberAnswer::Refused(Refusal::ListTooShort);
+        return Err(Refusal::ListTooShort);
     }
     clear_places(out);
     tally(Node::root(), genus, out);
-    NumberAnswer::Given(sum_of_conductors(out))
+    Ok(sum_of_conductors(out))
 }

@@ -16,6 +16,7 @@ use Rattle.semigroups.proofs.Children.{child_at_generator}
 use Rattle.semigroups.proofs.Elements.{multiplicity_le_conductor}
 use Rattle.semigroups.proofs.Tree.{Descendant, descendants_mem, multiplicity_stays}
 use Rattle.semigroups.proofs.Leaves.{descendants_leaves}
+pub use Rattle.nodes.specs.Nodes.{TakenOff}
 use Rattle.nodes.specs.Nodes.{node_of, child_node, first_row, lowest_offset}
 use Rattle.nodes.specs.Levels.{Levels, NodeWithLevels}
 use Rattle.nodes.specs.Branches.{branches, Offsets}
@@ -23,12 +24,6 @@ use Rattle.nodes.specs.declared.Node.{Node}
 use Rattle.nodes.proofs.Nodes.{node_child, first_row_generators}
 
 -- ---- the lowest of some offsets
-
--- at is the lowest of the offsets in bits, and rest has the others; the difference is that one bit
-pub record TakenOff (bits at rest : ℕ) : Type 0 where
-  pub fewer : rest < bits
-  pub first : positions bits ≡ at ∷ positions rest
-  pub value : bits - rest ≡ 2 ^ at
 
 module _ (bits : ℕ) (some : 0 < bits) (fits : bits < 2 ^ 64) where
   -- it is the lowest standing bit
@@ -44,6 +39,7 @@ module _ (bits : ℕ) (some : 0 < bits) (fits : bits < 2 ^ 64) where
   pub taken_off : {at rest : ℕ} → (at ≡ lowest_offset bits) × (rest ≡ bits - 2 ^ lowest_offset bits) → TakenOff bits at rest
   taken_off {at} {rest} (e, f) = record {
     fewer = omega (arith, pow_pos (lowest_offset bits), lowest_stands);
+    below = omega (arith, e, lowest_trailing, trailing_lt 64 bits some fits);
     first = positions_step bits some fits ∙ rw (e, f, lowest_trailing);
     value = rw (e, f) (omega (arith, lowest_stands));
   }
@@ -61,6 +57,11 @@ module _ {bits at rest : ℕ} (low : TakenOff bits at rest) where
   pub joined_lowest : {B : Type 0} (f : ℕ → List B) → joined f (positions bits) ≡ f at ++ joined f (positions rest)
   unfolding joined
   joined_lowest f = ap (joined f) low.first
+
+  -- it is that of the lowest bit
+  pub lowest_is : at ≡ lowest_offset bits
+  unfolding lowest_offset
+  lowest_is = sym (ap (λ (l : List ℕ). get_or l 0 64) low.first)
 
 -- over none, nothing is joined
 pub joined_none : {B : Type 0} (f : ℕ → List B) → joined f (positions 0) ≡ []

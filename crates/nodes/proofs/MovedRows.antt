@@ -17,7 +17,7 @@ use Rattle.semigroups.proofs.StandingBits.{bit_above, positions_mem}
 use Rattle.semigroups.proofs.Elements.{conductor_pos, multiplicity_pos, multiplicity_element, element_rises, element_le_conductor, multiplicity_below}
 use Rattle.semigroups.proofs.Closure.{conductor_le_64}
 use Rattle.seeds.specs.Seeds.{jump}
-use Rattle.nodes.specs.Nodes.{node_of, first_row, second_row, row_at, row_of_child, child_row, lowest_offset}
+use Rattle.nodes.specs.Nodes.{node_of, first_row, second_row, row_at, row_of_child, child_row, lowest_offset, TakenOff}
 use Rattle.nodes.specs.Levels.{Levels, NodeWithLevels}
 use Rattle.nodes.specs.Branches.{Offsets}
 use Rattle.nodes.specs.NewGaps.{gap_branches, GapsFit, moved_row, moved_row_of_child, TwoRows, ThreeRows, Upper}
@@ -28,7 +28,7 @@ use Rattle.nodes.proofs.RowBits.{row_of_child_bit}
 use Rattle.nodes.proofs.Nodes.{first_row_generators}
 use Rattle.nodes.proofs.Levels.{node_conductor}
 use Rattle.nodes.proofs.Branches.{child_of_generator, child_levels, leaves_row, offsets_row}
-use Rattle.nodes.proofs.NewGaps.{positions_moved, gap_branches_moved, fits_moved, upper_lowest, upper_bit, upper_rest, gap_word}
+use Rattle.nodes.proofs.NewGaps.{positions_moved, gap_branches_moved, fits_moved, upper_lowest, upper_bit, upper_rest, upper_taken, upper_left_is, gap_word, bit_word}
 
 -- ---- one row of a child, as numbers
 
@@ -147,6 +147,11 @@ pub child_row_computed : {generators rest at others : ℕ} (next size : ℕ) →
 child_row_computed next size from some low =
     ap₂ (λ (r e : ℕ). bit_or r (bit_and next e * 2 ^ size % 2 ^ 64)) (upper_rest from some low) (upper_lowest from some low).value
 
+-- the same by that bit itself
+pub child_row_made : {generators rest at others : ℕ} (next size : ℕ) → Upper generators rest → TakenOff rest at others
+    → bit_or others (bit_and next (2 ^ at) * 2 ^ size % 2 ^ 64) ≡ moved_row_of_child generators next size at
+child_row_made {at = at} next size upper low = ap (λ (r : ℕ). bit_or r (bit_and next (2 ^ at) * 2 ^ size % 2 ^ 64)) (upper_left_is upper low)
+
 -- ---- the words two levels below
 
 module _ {w m generators seeds : ℕ} (rows : TwoRows w m generators seeds) where
@@ -260,6 +265,10 @@ module _ {w m u generators seeds last : ℕ} (rows : ThreeRows w m u generators 
   child_two_rows_computed from some low =
       let off = upper_lowest from some low in
       rw (gap_word w off, child_row_computed seeds m from some low, off.value) (child_two_rows (upper_bit from some low))
+
+  pub child_two_rows_made : {rest at others : ℕ} → Upper generators rest → TakenOff rest at others
+      → TwoRows (w + 2 ^ at) m (bit_or others (bit_and seeds (2 ^ at) * 2 ^ m % 2 ^ 64)) (bit_or seeds (bit_and last (2 ^ at) * 2 ^ u % 2 ^ 64))
+  child_two_rows_made {at = at} upper low = rw (bit_word w at, child_row_made seeds m upper low) (child_two_rows (upper_taken upper low))
 
 -- ---- as they are read off a node
 

@@ -16,7 +16,7 @@ use Rattle.nodes.specs.Branches.{branches, Offsets}
 use Rattle.nodes.specs.declared.Node.{Node}
 use Rattle.nodes.specs.NewGaps.{gap_branches, GapsFit, Upper}
 use Rattle.nodes.proofs.Levels.{node_conductor}
-use Rattle.nodes.proofs.Branches.{TakenOff, taken_off, lowest_trailing, lowest_in, joined_lowest, joined_none, child_of_generator, levels_below}
+use Rattle.nodes.proofs.Branches.{TakenOff, taken_off, lowest_trailing, lowest_in, lowest_is, joined_lowest, joined_none, child_of_generator, levels_below}
 
 -- ---- one by one
 
@@ -36,6 +36,11 @@ module _ (w : ℕ) {bits at rest : ℕ} (low : TakenOff bits at rest) where
   pub gap_word : w + (bits - rest) ≡ child_word w (suc at)
   unfolding child_word
   gap_word = let last : at ≡ suc at - 1 = omega arith in ap (λ (k : ℕ). w + k) (low.value ∙ ap (λ (k : ℕ). 2 ^ k) last)
+
+-- the word without the gap of bit i is made by that bit
+pub bit_word : (w i : ℕ) → w + 2 ^ i ≡ child_word w (suc i)
+unfolding child_word
+bit_word w i = let last : i ≡ suc i - 1 = omega arith in ap (λ (k : ℕ). w + 2 ^ k) last
 
 -- ---- from offsets
 
@@ -107,3 +112,19 @@ module _ {n bits at rest : ℕ} (u : Upper n bits) (some : 0 < bits) (e : (at �
   -- from a higher position on
   pub upper_again : Upper n rest
   upper_again = upper_above at u.fits upper_rest
+
+-- at is the lowest of the bits, and rest has the others
+module _ {n bits at rest : ℕ} (u : Upper n bits) (low : TakenOff bits at rest) where
+  -- it is a bit of the number
+  pub upper_taken : Memᴰ at (positions n)
+  upper_taken = upper_in u (lowest_in low)
+
+  -- the others are those above it
+  pub upper_left_is : rest ≡ above n at
+  upper_left_is =
+      let here = lowest_is low in
+      upper_rest u (omega (arith, low.fewer)) (here, rw (← here) (omega (arith, low.value, low.fewer)))
+
+  -- from a higher position on
+  pub upper_left : Upper n rest
+  upper_left = upper_above at u.fits upper_left_is

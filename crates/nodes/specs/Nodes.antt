@@ -1,6 +1,6 @@
 -- A semigroup under way: its word, table and conductor together, its child, the rows of its table, the lowest of some offsets, and the way to
 -- a descendant. Assumes nothing: these are definitions.
-use Rattle.std.specs.Prelude.{◌≡◌, ℕ, suc, ◌+◌, ◌-◌, ◌*◌, ◌/◌, ◌%◌, ◌^◌, Bool, cond, not, ◌&&◌, ◌==◌, bit_or, nat_le, nat_lt, slice_index_or}
+use Rattle.std.specs.Prelude.{◌≡◌, ℕ, suc, ◌+◌, ◌-◌, ◌*◌, ◌/◌, ◌%◌, ◌^◌, ◌<◌, ◌∷◌, Bool, cond, not, ◌&&◌, ◌==◌, bit_or, nat_le, nat_lt, slice_index_or}
 use Rattle.semigroups.specs.Lists.{keep}
 use Rattle.semigroups.specs.Words.{bit, digit, gaps, conductor}
 use Rattle.semigroups.specs.Positions.{positions}
@@ -58,6 +58,13 @@ child_row n i d = row_of_child (row_at n i) (row_at n (suc i)) (jump n.word i) d
 -- the lowest of some offsets, which are the bits of a number of 64 bits, and 64 where there are none
 unfoldable pub lowest_offset : ℕ → ℕ
 lowest_offset bits = slice_index_or (positions bits) 0 64
+
+-- at is the lowest of the offsets that are the bits of a number of 64 bits, and rest has the others; the difference is that one bit
+pub record TakenOff (bits at rest : ℕ) : Type 0 where
+  pub fewer : rest < bits
+  pub below : at < 64
+  pub first : positions bits ≡ at ∷ positions rest
+  pub value : bits - rest ≡ 2 ^ at
 
 -- d is the lowest of some offsets of row 0, and others has those after it: the child there has no generators, as far as rows 0 and 1 tell it, where
 -- k is at least 2. None comes after d, and d is none of row 1

@@ -2,12 +2,13 @@
 // and great-grandchildren.
 #![tactic(auto)]
 
-ghost use Rattle.std.specs.Prelude.{◌≡◌, ◌-◌, ◌^◌, ◌<◌, ◌≤◌, count_ones};
+ghost use Rattle.std.specs.Prelude.{◌≡◌, ◌-◌, ◌^◌, ◌<◌, ◌≤◌, count_ones, MatchOption};
+ghost use Rattle.std.specs.Iterator.{at_most};
 ghost use Rattle.semigroups.specs.Elements.{element_at};
 ghost use Rattle.seeds.specs.Child.{raked};
 ghost use Rattle.seeds.specs.Grandchildren.{pairs};
 ghost use Rattle.seeds.specs.GreatGrandchildren.{triples};
-ghost use Rattle.nodes.specs.Nodes.{node_of, child_node, first_row, second_row, row_at, RowFrom, lowest_offset, childless_at, next_offset};
+ghost use Rattle.nodes.specs.Nodes.{node_of, child_node, first_row, second_row, row_at, RowFrom, TakenOff, lowest_offset, childless_at, next_offset};
 ghost use Rattle.nodes.specs.RowCounts.{count_by_rows, grandchildren_at, great_count_by_rows};
 
 use answers::{Element, Index, Offset};
@@ -260,5 +261,33 @@ pub fn lowest_of(bits: u64) -> Lowest
     Lowest {
         at: Offset(at),
         rest: bits & (bits - 1),
+    }
+}
+
+// Takes the lowest of some offsets off, where there are some.
+fn take_lowest(bits: u64) -> Option<Lowest>
+    ensures { MatchOption result (bits ≡ 0) (λ l. TakenOff bits l.at.0 l.rest) }
+{
+    if bits == 0 {
+        return None;
+    }
+    Some(lowest_of(bits))
+}
+
+// The offsets that are the bits of a number, from the lowest on: each comes with the others that are left.
+#[derive(Drop)]
+pub struct Bits(pub u64);
+
+impl Iterator for Bits {
+    type Item = Lowest;
+
+    ghost next_gives = { λ s r t. MatchOption r ((s.0 ≡ 0) × (t.0 ≡ 0)) (λ l. TakenOff s.0 l.at.0 l.rest × (t.0 ≡ l.rest)) };
+
+    ghost remaining = { λ s. at_most s.0 };
+
+    fn next(&mut self) -> Option<Lowest> {
+        let low = take_lowest(self.0)?;
+        self.0 = low.rest;
+        Some(low)
     }
 }

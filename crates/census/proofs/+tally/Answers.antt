@@ -4,7 +4,7 @@ use mathlib.Core.List.Memᴰ
 use Rattle.semigroups.specs.Tree.{leaves}
 use Rattle.nodes.specs.Branches.{branches}
 use Rattle.nodes.proofs.Levels.{node_conductor}
-use Rattle.nodes.proofs.Branches.{taken_off, branches_none, Row, row_branches, FirstChild, first_child}
+use Rattle.nodes.proofs.Branches.{branches_none, Row, row_branches, FirstChild, first_child}
 use Rattle.census.specs.Private.{one_more_at, census_place, tallied}
 use Rattle.census.proofs.Tallies.{InParts, tally_begins, room_first, tally_again, tally_ends}
 use Rattle.census.proofs.WordPlaces.{leaf_place}
@@ -12,16 +12,15 @@ use Rattle.census.proofs.+tally.Goals as goal
 use Rattle.census.proofs.+tally.Goals.{After-child}
 
 -- the child at the lowest offset, and the others
-first : {t : ℕ} (c : After-child t) → FirstChild (c.args.left - 1) c.args.n c.child.result c.loop-bits.bits c.lowest_of-d.result.rest
+first : {t : ℕ} (c : After-child t) → FirstChild (c.args.left - 1) c.args.n c.child.result c.loop-low.low-iterator.0 c.in-Some.low.rest
 first c =
-    let row : Row c.args.left c.args.n c.first_row-bits.result =
-    row_branches _ _ c.if-left-eq0.false c.requires.node_with_levels c.first_row-bits.ensures in
-    first_child _ _ row.node_levels c.loop-bits.invariant.1 (taken_off _ (omega arith) c.loop-bits.invariant.0 c.lowest_of-d.ensures) c.child.ensures
+    let row : Row c.args.left c.args.n c.first_row.result = row_branches _ _ c.if-left-eq0.false c.requires.node_with_levels c.first_row.ensures in
+    first_child _ _ row.node_levels c.loop-low.invariant.0 c.in-Some.ensures.steps.0 c.child.ensures
 
 -- the words below them
 parts : {t : ℕ} (c : After-child t)
-    → InParts (leaves (c.args.left - 1) c.child.result.word) (branches (c.args.left - 1) c.args.n.word c.lowest_of-d.result.rest)
-    (branches (c.args.left - 1) c.args.n.word c.loop-bits.bits)
+    → InParts (leaves (c.args.left - 1) c.child.result.word) (branches (c.args.left - 1) c.args.n.word c.in-Some.low.rest)
+    (branches (c.args.left - 1) c.args.n.word c.loop-low.low-iterator.0)
 parts c = record { split = (first c).parts }
 
 pub add_one-requires : goal.add_one-requires
@@ -45,24 +44,20 @@ pub tally_great_grandchildren-requires-clause-word_bound : goal.tally_great_gran
 tally_great_grandchildren-requires-clause-word_bound t c =
     omega (arith, c.second_element.ensures, node_conductor _ _ c.requires.node_with_levels)
 
-pub loop-bits-init : goal.loop-bits-init
-loop-bits-init t c =
-    let row : Row c.args.left c.args.n c.first_row-bits.result =
-    row_branches _ _ c.if-left-eq0.false c.requires.node_with_levels c.first_row-bits.ensures in
-    (c.first_row-bits.type_inv, row.offsets, tally_begins census_place row.all c.requires.room_for)
+pub loop-low-init : goal.loop-low-init
+loop-low-init t c =
+    let row : Row c.args.left c.args.n c.first_row.result = row_branches _ _ c.if-left-eq0.false c.requires.node_with_levels c.first_row.ensures in
+    rw c.into_iter-low-iterator.ensures.into_iter_gives (row.offsets, tally_begins census_place row.all c.requires.room_for)
 
 pub tally-requires : goal.tally-requires
 tally-requires t c =
     let child = (goal.at.tally-requires t c).After-child in
-    (omega arith, ((first child).node_levels, room_first c.loop-bits.invariant.2 (parts child)))
+    (omega arith, ((first child).node_levels, room_first c.loop-low.invariant.1 (parts child)))
 
-pub loop-bits-preserved : goal.loop-bits-preserved
-loop-bits-preserved t c =
-    let child = (goal.at.loop-bits-preserved t c).After-child in (
-      omega (arith, (taken_off _ (omega arith) c.loop-bits.invariant.0 c.lowest_of-d.ensures).fewer),
-      (first child).others,
-      tally_again c.loop-bits.invariant.2 (parts child) c.tally.ensures,
-    )
+pub loop-low-preserved : goal.loop-low-preserved
+loop-low-preserved t c =
+    let child = (goal.at.loop-low-preserved t c).After-child in
+    rw c.in-Some.ensures.steps.1 ((first child).others, tally_again c.loop-low.invariant.1 (parts child) c.tally.ensures)
 
 pub returns : goal.returns
-returns t c = tally_ends c.loop-bits.invariant.2 (rw c.loop-bits-test.false (branches_none _ _))
+returns t c = tally_ends c.loop-low.invariant.1 (rw c.in-None.ensures.steps.0 (branches_none _ _))

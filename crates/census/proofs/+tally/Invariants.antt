@@ -9,10 +9,7 @@ use Rattle.census.proofs.+tally.Given as goal
 abbrev pub decreases-tally : goal.decreases-tally
 decreases-tally l = l.left
 
-abbrev pub invariant-loop-bits : goal.invariant-loop-bits
-invariant-loop-bits l =
-    (l.bits < 2 ^ 64) × Offsets l.n.word l.bits
-    × Tallying census_place (leaves l.left l.n.word) (branches (l.left - 1) l.n.word l.bits) l.initial.out l.out
-
-abbrev pub decreases-loop-bits : goal.decreases-loop-bits
-decreases-loop-bits l = l.bits
+abbrev pub invariant-loop-low : goal.invariant-loop-low
+invariant-loop-low l =
+    Offsets l.n.word l.low-iterator.0
+    × Tallying census_place (leaves l.left l.n.word) (branches (l.left - 1) l.n.word l.low-iterator.0) l.initial.out l.out

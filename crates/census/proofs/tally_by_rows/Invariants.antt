@@ -2,8 +2,5 @@
 use Rattle.census.proofs.RowPlaces.{TallyingGaps}
 use Rattle.census.proofs.tally_by_rows.Given as goal
 
-abbrev pub invariant-loop-rest : goal.invariant-loop-rest
-invariant-loop-rest l = TallyingGaps 1 l.word l.generators l.initial.out l.rest l.out
-
-abbrev pub decreases-loop-rest : goal.decreases-loop-rest
-decreases-loop-rest l = l.rest
+abbrev pub invariant-loop-low : goal.invariant-loop-low
+invariant-loop-low l = TallyingGaps 1 l.word l.generators l.initial.out l.low-iterator.0 l.out

@@ -4,18 +4,18 @@ use native.Mathlib.Nat.{mod-lt}
 use lib.Pow.{pow_pos}
 use Rattle.semigroups.specs.Words.{child_word}
 use Rattle.semigroups.specs.Tree.{leaves}
+use Rattle.semigroups.proofs.Bits.{one_shl}
 use Rattle.nodes.specs.NewGaps.{ThreeRows}
 use Rattle.nodes.proofs.Levels.{conductor_within}
 use Rattle.nodes.proofs.Rows.{second_above}
-use Rattle.nodes.proofs.Branches.{TakenOff}
-use Rattle.nodes.proofs.NewGaps.{upper_lowest, upper_bit, gap_word}
-use Rattle.nodes.proofs.MovedRows.{three_rows_low, three_levels_below, three_rows_fit, child_two_rows_computed, node_three_rows}
+use Rattle.nodes.proofs.NewGaps.{upper_taken, bit_word}
+use Rattle.nodes.proofs.MovedRows.{three_rows_low, three_levels_below, three_rows_fit, child_two_rows_made, node_three_rows}
 use Rattle.census.specs.Private.{census_place, tallied}
 use Rattle.census.proofs.RowPlaces.{with_multiplicity, gaps_begin, gap_room, gaps_again, gaps_end}
 use Rattle.census.proofs.tally_great_grandchildren.Goals as goal
-use Rattle.census.proofs.tally_great_grandchildren.Goals.{After-first_row, After-lowest_of-low}
+use Rattle.census.proofs.tally_great_grandchildren.Goals.{After-third_row, In-Some}
 
-module _ (c : After-first_row) where
+module _ (c : After-third_row) where
   -- a row, moved up
   abbrev moved : ℕ → ℕ
   moved row = row * 2 ^ (c.args.n.conductor - 1) % 2 ^ 64
@@ -28,14 +28,10 @@ module _ (c : After-first_row) where
       node_three_rows _ c.multiplicity_of-m.ensures c.first_row.ensures c.second_row.ensures c.requires.node_with_levels c.requires.word_bound
       c.second_element.ensures c.third_row.ensures
 
-module _ (c : After-lowest_of-low) where
-  -- the lowest generator that is left is taken off the others
-  lowest : TakenOff c.loop-rest.rest c.lowest_of-low.result.at.0 c.lowest_of-low.result.rest
-  lowest = upper_lowest c.loop-rest.invariant.upper (omega arith) c.lowest_of-low.ensures
-
-  -- the child without it has the word with its bit added
-  child : c.args.n.word + (c.loop-rest.rest - c.lowest_of-low.result.rest) ≡ child_word c.args.n.word (suc c.lowest_of-low.result.at.0)
-  child = gap_word _ lowest
+module _ (c : In-Some) where
+  -- the child without the lowest generator that is left has the word with its bit added
+  child : c.args.n.word + 1 * 2 ^ c.in-Some.low.at.0 % 2 ^ 64 ≡ child_word c.args.n.word (suc c.in-Some.low.at.0)
+  child = rw (one_shl c.in-Some.low.at.0 c.in-Some.ensures.steps.0.below) (bit_word c.args.n.word c.in-Some.low.at.0)
 
 pub overflow_sub-up : goal.overflow_sub-up
 overflow_sub-up c = (conductor_within 3 _ c.requires.node_with_levels).0
@@ -51,48 +47,48 @@ overflow_shl-seeds c = omega (arith, conductor_within 3 _ c.requires.node_with_l
 pub overflow_shl-last : goal.overflow_shl-last
 overflow_shl-last c = omega (arith, conductor_within 3 _ c.requires.node_with_levels)
 
-pub overflow_shl-rest : goal.overflow_shl-rest
-overflow_shl-rest c = omega (arith, conductor_within 3 _ c.requires.node_with_levels)
+pub overflow_shl-generators : goal.overflow_shl-generators
+overflow_shl-generators c = omega (arith, conductor_within 3 _ c.requires.node_with_levels)
 
-pub loop-rest-init : goal.loop-rest-init
-loop-rest-init c = gaps_begin (mod-lt _ (pow_pos 64)) (three_levels_below (rows (goal.at.loop-rest-init c).After-first_row)) c.requires.room_for
-
-pub overflow_sub-e : goal.overflow_sub-e
-overflow_sub-e c = omega (arith, (lowest (goal.at.overflow_sub-e c).After-lowest_of-low).fewer)
+pub loop-low-init : goal.loop-low-init
+loop-low-init c =
+    rw c.into_iter-low-iterator.ensures.into_iter_gives
+    (gaps_begin (mod-lt _ (pow_pos 64)) (three_levels_below (rows (goal.at.loop-low-init c).After-third_row)) c.requires.room_for)
 
 -- it is one of the generators, so that the word without it fits
 pub overflow_add-w : goal.overflow_add-w
 overflow_add-w c =
     let at = goal.at.overflow_add-w c in
-    rw (child at.After-lowest_of-low)
-    record { fits = three_rows_fit (rows at.After-first_row) _ (upper_bit c.loop-rest.invariant.upper (omega arith) c.lowest_of-low.ensures) }
+    rw (child at.In-Some)
+    record { fits = three_rows_fit (rows at.After-third_row) _ (upper_taken c.loop-low.invariant.upper c.in-Some.ensures.steps.0) }
 
-pub overflow_shl-seeds-in-loop-rest : goal.overflow_shl-seeds-in-loop-rest
-overflow_shl-seeds-in-loop-rest c = (three_rows_low (rows (goal.at.overflow_shl-seeds-in-loop-rest c).After-first_row)).0
+pub overflow_shl-seeds-in-loop-low : goal.overflow_shl-seeds-in-loop-low
+overflow_shl-seeds-in-loop-low c = (three_rows_low (rows (goal.at.overflow_shl-seeds-in-loop-low c).After-third_row)).0
 
-pub overflow_shl-last-in-loop-rest : goal.overflow_shl-last-in-loop-rest
-overflow_shl-last-in-loop-rest c = (three_rows_low (rows (goal.at.overflow_shl-last-in-loop-rest c).After-first_row)).1
+pub overflow_shl-last-in-loop-low : goal.overflow_shl-last-in-loop-low
+overflow_shl-last-in-loop-low c = (three_rows_low (rows (goal.at.overflow_shl-last-in-loop-low c).After-third_row)).1
 
 -- rows 0 and 1 of that word are made of the generator, of the others and of the rows
 pub tally_by_rows-requires : goal.tally_by_rows-requires
 tally_by_rows-requires c =
     let at = goal.at.tally_by_rows-requires c in
-    let now = c.loop-rest.invariant in
+    let now = c.loop-low.invariant in
+    let low = c.in-Some.ensures.steps.0 in
     record {
       two_rows =
           with_multiplicity {m = c.multiplicity_of-m.result}
-          (child_two_rows_computed (rows at.After-first_row) now.upper (omega arith) c.lowest_of-low.ensures) refl;
-      room_for = rw (child at.After-lowest_of-low) (gap_room now (omega arith) c.lowest_of-low.ensures);
+          (rw (one_shl c.in-Some.low.at.0 low.below) (child_two_rows_made (rows at.After-third_row) now.upper low)) refl;
+      room_for = rw (child at.In-Some) (gap_room now low);
     }
 
-pub loop-rest-smaller : goal.loop-rest-smaller
-loop-rest-smaller c = (lowest (goal.at.loop-rest-smaller c).After-lowest_of-low).fewer
-
-pub loop-rest-preserved : goal.loop-rest-preserved
-loop-rest-preserved c =
-    gaps_again c.loop-rest.invariant (omega arith) c.lowest_of-low.ensures
-    (c.tally_by_rows.ensures
-    ∙ ap (λ (v : ℕ). tallied (map census_place (leaves 2 v)) c.loop-rest.out) (child (goal.at.loop-rest-preserved c).After-lowest_of-low))
+pub loop-low-preserved : goal.loop-low-preserved
+loop-low-preserved c =
+    let (low, left) = c.in-Some.ensures.steps in
+    rw left (
+      gaps_again c.loop-low.invariant low
+      (c.tally_by_rows.ensures
+      ∙ ap (λ (v : ℕ). tallied (map census_place (leaves 2 v)) c.loop-low.out) (child (goal.at.loop-low-preserved c).In-Some))
+    )
 
 pub returns : goal.returns
-returns c = gaps_end c.loop-rest.invariant c.loop-rest-test.false
+returns c = gaps_end c.loop-low.invariant c.in-None.ensures.steps.0

@@ -2,8 +2,5 @@
 use Rattle.census.proofs.RowPlaces.{TallyingGaps}
 use Rattle.census.proofs.tally_great_grandchildren.Given as goal
 
-abbrev pub invariant-loop-rest : goal.invariant-loop-rest
-invariant-loop-rest l = TallyingGaps 2 l.w l.initial.rest l.initial.out l.rest l.out
-
-abbrev pub decreases-loop-rest : goal.decreases-loop-rest
-decreases-loop-rest l = l.rest
+abbrev pub invariant-loop-low : goal.invariant-loop-low
+invariant-loop-low l = TallyingGaps 2 l.w l.generators l.initial.out l.low-iterator.0 l.out
