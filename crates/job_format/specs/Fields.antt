@@ -1,15 +1,8 @@
 -- What the call that reads the fields of a job answers, for every list of bytes. Assumes nothing: these are definitions.
 use Rattle.std.specs.Prelude.{ℕ, Bool, ◌&&◌, List, [], ◌∷◌, eqb, leb, length, get_or}
-use Rattle.answers.specs.Answers.{Answer, refused, given, number_of, ask}
+use Rattle.answers.specs.Answers.{Answer, refused, given, ask}
 use Rattle.job_format.specs.Format.{job_length, map_in, field_in, has_version, version_in, has_bits}
 use Rattle.job_format.specs.declared.Fields.{Fields}
-use Rattle.job_format.specs.declared.FieldsAnswer.{FieldsAnswer}
-use Rattle.job_format.specs.declared.FieldsAnswer.TheVariants as F
-
--- what the cases of `FieldsAnswer` say
-abbrev pub fields_as : FieldsAnswer → Answer Fields
-fields_as (F.Refused r) = refused (number_of r)
-fields_as (F.Given f) = given f
 
 -- the bit map and the fields of a job
 unfoldable pub all_in : List ℕ → Fields

@@ -16,22 +16,22 @@ byte job h i low = byte_field job (entries_bytes job h) i low
 pub bounds-job-0 : goal.bounds-job-0
 bounds-job-0 c = omega (arith, c.requires, place_pos (map_in c.args.job.now) 7)
 
-pub overflow_cast-genus : goal.overflow_cast-genus
-overflow_cast-genus c = omega (arith, c.field_in-genus.ensures, byte c.args.job.now (λ j. omega (arith, c.type_inv.job j)) 0 (omega arith))
+pub overflow_cast-result : goal.overflow_cast-result
+overflow_cast-result c = omega (arith, c.field_in.ensures, byte c.args.job.now (λ j. omega (arith, c.type_inv.job j)) 0 (omega arith))
 
-pub overflow_cast-lowest : goal.overflow_cast-lowest
-overflow_cast-lowest c = omega (arith, c.field_in-lowest.ensures, byte c.args.job.now (λ j. omega (arith, c.type_inv.job j)) 1 (omega arith))
+pub overflow_cast-result-2 : goal.overflow_cast-result-2
+overflow_cast-result-2 c = omega (arith, c.field_in-2.ensures, byte c.args.job.now (λ j. omega (arith, c.type_inv.job j)) 1 (omega arith))
 
-pub overflow_cast-highest : goal.overflow_cast-highest
-overflow_cast-highest c = omega (arith, c.field_in-highest.ensures, byte c.args.job.now (λ j. omega (arith, c.type_inv.job j)) 2 (omega arith))
+pub overflow_cast-result-3 : goal.overflow_cast-result-3
+overflow_cast-result-3 c = omega (arith, c.field_in-3.ensures, byte c.args.job.now (λ j. omega (arith, c.type_inv.job j)) 2 (omega arith))
 
 pub returns : goal.returns
 unfolding all_in
 returns c = λ i. record {
   map = map_in c.args.job.now;
-  genus = c.field_in-genus.ensures i;
-  lowest = c.field_in-lowest.ensures i;
-  highest = c.field_in-highest.ensures i;
-  word = c.field_in-word.ensures i;
-  written = c.field_in-written.ensures i;
+  genus = c.field_in.ensures i;
+  lowest = c.field_in-2.ensures i;
+  highest = c.field_in-3.ensures i;
+  word = c.field_in-4.ensures i;
+  written = c.field_in-5.ensures i;
 }
