@@ -7,19 +7,19 @@ ghost use Rattle.semigroups.specs.Words.{bit};
 ghost use Rattle.answers.specs.Answers.{answered, listed, into_lent};
 ghost use Rattle.job_format.specs.Bytes.{bytes_of, value_of};
 ghost use Rattle.job_format.specs.Format.{field_width, version_has, field_size, field_place, job_length, laid, map_in, field_in, has_version, version_in, has_bits};
-ghost use Rattle.job_format.specs.Fields.{all_in, knows, fields_of};
+ghost use Rattle.job_format.specs.Fields.{field_or_none, all_in, knows, fields_of};
 
 use answers::Refusal;
 
-// The bit map of a job and the values of its fields, each as wide as the field. A field whose bit does not stand has no bytes, and the value 0.
-#[derive(Clone, Copy)]
+// The fields of a job, each where its bit stands.
+#[derive(Clone, Copy, Debug, PartialEq, Eq)]
 pub struct Fields {
-    pub map: u8,
-    pub genus: u8,
-    pub lowest: u8,
-    pub highest: u8,
-    pub word: u64,
-    pub written: u64,
+    pub genus: Option<u8>,
+    pub lowest: Option<u8>,
+    pub highest: Option<u8>,
+    pub word: Option<u64>,
+    pub written: Option<u64>,
+    pub finished: bool,
 }
 
 // The number of bytes of the field of a bit that a version has, and `None` for a bit that it has not: reader and writer go by this match. The
@@ -130,22 +130,46 @@ fn field_in(job: &[u8], at: usize) -> u64
     value_at(job, field_place(map, at), field_size(map, at))
 }
 
-// The bit map and the fields of a job that is as long as its bit map says.
+// The value of the field of a bit below 7, where the bit stands.
+fn word_in(job: &[u8], at: usize) -> Option<u64>
+    requires at_bound { at < 7 }
+    requires job_len { length job.now ≡ job_length (map_in job.now) }
+    ensures { result ≡ field_or_none job.now at }
+{
+    if !stands(job[0], at) {
+        return None;
+    }
+    Some(field_in(job, at))
+}
+
+// The same of a field of one byte.
+fn byte_in(job: &[u8], at: usize) -> Option<u8>
+    requires at_bound { at < 3 }
+    requires job_len { length job.now ≡ job_length (map_in job.now) }
+    ensures { result ≡ field_or_none job.now at }
+{
+    if !stands(job[0], at) {
+        return None;
+    }
+    Some(field_in(job, at) as u8)
+}
+
+// The fields of a job that is as long as its bit map says.
 fn all_in(job: &[u8]) -> Fields
     requires { length job.now ≡ job_length (map_in job.now) }
     ensures { result ≡ all_in job.now }
 {
     Fields {
-        map: job[0],
-        genus: field_in(job, 0) as u8,
-        lowest: field_in(job, 1) as u8,
-        highest: field_in(job, 2) as u8,
-        word: field_in(job, 3),
-        written: field_in(job, 4),
+        genus: byte_in(job, 0),
+        lowest: byte_in(job, 1),
+        highest: byte_in(job, 2),
+        word: word_in(job, 3),
+        written: word_in(job, 4),
+        finished: stands(job[0], 5),
     }
 }
 
-// Reads the bit map and the fields of a job of version 1 or 2.
+// Reads the fields of a job of version 1 or 2.
 pub fn fields_from(job: &[u8]) -> Result<Fields, Refusal>
     ensures { answered result ≡ fields_of 2 job.now }
 {
