@@ -2,7 +2,7 @@
 use Prim.Native.Nat.{ℕ}
 use mathlib.Core.Path.{◌≡◌, refl}
 use mathlib.Core.List.{List, [], ◌∷◌}
-use Rattle.std.specs.Prelude.{Some, None}
+use Rattle.std.specs.Prelude.{false, Some, None}
 use lib.ListN.{get_or}
 use Rattle.semigroups.specs.Lists.{run, every, member_of, joined, sum_over}
 use Rattle.semigroups.specs.Words.{bit}

@@ -1,20 +1,13 @@
 -- What the calls of saved jobs answer, for every walk and every list of bytes. Assumes nothing: these are definitions.
 use Rattle.std.specs.Prelude.{ℕ, Bool, true, false, cond, not, ◌&&◌, List, [], ◌∷◌, eqb, length, get_or}
 use Rattle.semigroups.specs.Words.{bit, of_bits}
-use Rattle.answers.specs.Answers.{Answer, refused, given, number_of, ask, ListAnswer, unchanged, into_lent}
+use Rattle.answers.specs.Answers.{Answer, refused, given, ask, ListAnswer, unchanged, into_lent}
 use Rattle.windows.specs.Windows.{window_list}
 use Rattle.walk.specs.declared.Walk.{Walk}
 use Rattle.walk.specs.Walks.{standing, ask_walk}
 use Rattle.job_format.specs.Format.{job_length, value_or, laid, map_in, field_in, has_version, version_in}
 use Rattle.job_format.specs.Fields.{knows}
 use Rattle.jobs.specs.declared.Saved.{Saved}
-use Rattle.jobs.specs.declared.JobAnswer.{JobAnswer}
-use Rattle.jobs.specs.declared.JobAnswer.TheVariants as J
-
--- what the cases of `JobAnswer` say
-abbrev pub read_as : JobAnswer → Answer Saved
-read_as (J.Refused r) = refused (number_of r)
-read_as (J.Given s) = given s
 
 -- ---- what the fields mean
 
