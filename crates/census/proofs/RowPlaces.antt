@@ -1,6 +1,6 @@
 -- The words below a word, counted up child by child, and the places of those two levels below it, by its rows moved up to the conductor: these words
 -- have its multiplicity, and the bits that tell the generators of a child tell the conductors of the words below the child. Assumes nothing.
-use Prim.Native.Nat.{ℕ, suc, ◌+◌, ◌*◌, ◌-◌, ◌^◌, ◌<◌}
+use Prim.Native.Nat.{ℕ, suc, ◌+◌, ◌*◌, ◌^◌, ◌<◌}
 use mathlib.Core.Path.{◌≡◌, sym, ap, ◌∙◌, subst}
 use mathlib.Core.List.Memᴰ
 use mathlib.Core.List.{List, map, map-map, Memᴰ}

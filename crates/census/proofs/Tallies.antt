@@ -7,7 +7,7 @@ use native.Mathlib.Omega.{arith}
 use native.Mathlib.Nat.{add-zero}
 use native.Mathlib.Decide.{ℕ_discrete, dec_lt}
 use lib.Dec.{eqb}
-use lib.ListN.{length, get_or, length-set, length-append, length-map, length-replicate, replicate-append-replicate, get_or-eq_default}
+use lib.ListN.{length, get_or, length-set, length-append, length-map, length-replicate, get_or-eq_default}
 use lib.Seq.{get_or-set_same, get_or-set_other}
 use borrow.Author.Tests.{eq-eqb, ne_eqb}
 use Rattle.semigroups.specs.Lists.{keep, keep_if}
@@ -22,10 +22,6 @@ blank_length n = length-replicate {A = ℕ} n 0
 pub blank_at : (n p : ℕ) → get_or (blank n) p 0 ≡ 0
 unfolding blank
 blank_at n p = get_d_append_default [] n p 0
-
-pub blank_next : (n : ℕ) → blank n ++ 0 ∷ [] ≡ blank (n + 1)
-unfolding blank
-blank_next n = replicate-append-replicate {A = ℕ} n 1 0
 
 -- ---- counting up
 

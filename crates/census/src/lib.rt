@@ -24,9 +24,7 @@ fn clear_places(out: &mut [u64])
     requires { 2210 ≤ length out.old }
     ensures { out.new ≡ fronted (blank 2210) out.old }
 {
-    for place in 0..2210usize {
-        out[place] = 0;
-    }
+    out[..2210].fill(0);
 }
 
 // The place of a word: 65 times its multiplicity and its reported conductor.
@@ -40,12 +38,12 @@ fn place_of(word: u64) -> u64
 }
 
 // Adds one at a place.
+#[tactic(auto, unfolding(crate::specs::Private::one_more_at))]
 fn add_one(place: u64, out: &mut [u64])
     requires { (place < 2210) × RoomFor 1 out.old }
     ensures { out.new ≡ one_more_at place out.old }
 {
-    let p = place as usize;
-    out[p] = out[p] + 1;
+    out[place as usize] += 1;
 }
 
 // Adds one at the place `first` and a position, for each of the positions that are the bits of a number.
@@ -144,9 +142,9 @@ fn sum_of_conductors(out: &[u64]) -> u64
     ensures { result ≡ conductors_in out.now }
 {
     let mut sum: u64 = 0;
-    for p in 0..2210usize {
+    for (p, number) in out[..2210].iter().enumerate() {
         let conductor = p as u64 % 65;
-        sum = sum + conductor * out[p];
+        sum += conductor * number;
     }
     sum
 }

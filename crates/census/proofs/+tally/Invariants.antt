@@ -1,5 +1,5 @@
 -- The levels below a node are the measure. The loop's invariant: what is left to count makes, with what was counted, all that there is to count.
-use Rattle.std.proofs.Common.{◌-◌, ◌^◌, ◌<◌}
+use Rattle.std.proofs.Common.{◌-◌}
 use Rattle.semigroups.specs.Tree.{leaves}
 use Rattle.nodes.specs.Branches.{branches, Offsets}
 use Rattle.census.specs.Private.{census_place}

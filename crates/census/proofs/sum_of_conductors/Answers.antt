@@ -1,5 +1,6 @@
 -- `census::sum_of_conductors` meets its contract. Assumes nothing.
-use Rattle.std.proofs.Common.{◌≡◌, ℕ, suc, ◌+◌, ◌*◌, ◌-◌, ◌%◌, ◌^◌, ◌≤◌, ◌<◌, List, [], ◌∷◌, get_or, refl, ap, ◌∙◌, arith, add-one}
+use Rattle.std.proofs.Common.{◌≡◌, ℕ, suc, ◌+◌, ◌*◌, ◌-◌, ◌%◌, ◌^◌, ◌≤◌, ◌<◌, List, [], ◌∷◌, get_or, length, take, refl, ap, ◌∙◌, arith, add-one}
+use Rattle.std.proofs.lemmas.List.{get_or-take, length-take, length-take-le}
 use Rattle.semigroups.specs.Lists.{run, sum_over}
 use Rattle.semigroups.proofs.Lists.{run_below, run_last, sum_append}
 use Rattle.census.specs.Private.{conductors_in}
@@ -29,22 +30,33 @@ below_whole o p h =
 fits_with : (o : List ℕ) (p : ℕ) → p < 2210 → conductors_in o < 2 ^ 64 → before_place o p + added o p < 2 ^ 64
 fits_with o p h fits = omega (arith, next_place o p, below_whole o (suc p) h)
 
+-- the number at one of the first places
+within : (k : ℕ) (o : List ℕ) (p : ℕ) → p < length (take k o) → get_or (take k o) p 0 ≡ get_or o p 0
+within k o p h = get_or-take k o p 0 (omega (arith, length-take k o))
+
 pub loop-p-init : goal.loop-p-init
 unfolding run sum_over
-loop-p-init c = (omega arith, refl)
+loop-p-init c = refl
 
 pub overflow_mul-sum : goal.overflow_mul-sum
-overflow_mul-sum c = record { fits = omega (arith, fits_with c.args.out.now c.loop-p.p (omega arith) c.requires.1) }
+overflow_mul-sum c =
+    let h = c.loop-p-test.true in
+    let here : c.loop-p.p < 2210 = omega (arith, length-take {A = ℕ}) in
+    rw within record { fits = omega (arith, fits_with c.args.out.now c.loop-p.p here c.requires.1) }
 
 pub overflow_add-sum : goal.overflow_add-sum
-overflow_add-sum c = record { fits = omega (arith, fits_with c.args.out.now c.loop-p.p (omega arith) c.requires.1, c.loop-p.invariant.1) }
+overflow_add-sum c =
+    let h = c.loop-p-test.true in
+    let here : c.loop-p.p < 2210 = omega (arith, length-take {A = ℕ}) in
+    rw within record { fits = omega (arith, fits_with c.args.out.now c.loop-p.p here c.requires.1, c.loop-p.invariant) }
 
 pub loop-p-preserved : goal.loop-p-preserved
 loop-p-preserved c =
     let o : List ℕ = c.args.out.now in
     let p : ℕ = c.loop-p.p in
-    (omega arith, omega (arith, c.loop-p.invariant.1, next_place o p, ap (before_place o) (add-one p)))
+    let h = c.loop-p-test.true in
+    rw within (omega (arith, c.loop-p.invariant, next_place o p, ap (before_place o) (add-one p)))
 
 pub returns : goal.returns
 unfolding conductors_in
-returns c = c.loop-p.invariant.1 ∙ ap (before_place c.args.out.now) (omega arith)
+returns c = c.loop-p.invariant ∙ ap (before_place c.args.out.now) (omega (arith, length-take-le 2210 c.args.out.now c.requires.0))

@@ -7,4 +7,3 @@ use Rattle.census.proofs.tally_bits.Given as goal
 
 abbrev pub invariant-loop-low : goal.invariant-loop-low
 invariant-loop-low l = Upper l.bits l.low-iterator.0 × Tallying (λ i. l.first + i) (positions l.bits) (positions l.low-iterator.0) l.initial.out l.out
-

@@ -79,8 +79,8 @@ loop-low-preserved c =
     let at = goal.at.loop-low-preserved c in
     let (low, left) = c.in-Some.ensures.steps in
     rw left (
-      gaps_again c.loop-low.invariant low
-      (c.tally_bits.ensures ∙ ap (λ (l : List ℕ). tallied l c.loop-low.out) (sym (places at.In-Some (rows at.After-multiplicity_of-m))))
+    gaps_again c.loop-low.invariant low
+    (c.tally_bits.ensures ∙ ap (λ (l : List ℕ). tallied l c.loop-low.out) (sym (places at.In-Some (rows at.After-multiplicity_of-m))))
     )
 
 pub returns : goal.returns

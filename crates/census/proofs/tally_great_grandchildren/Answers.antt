@@ -85,9 +85,9 @@ pub loop-low-preserved : goal.loop-low-preserved
 loop-low-preserved c =
     let (low, left) = c.in-Some.ensures.steps in
     rw left (
-      gaps_again c.loop-low.invariant low
-      (c.tally_by_rows.ensures
-      ∙ ap (λ (v : ℕ). tallied (map census_place (leaves 2 v)) c.loop-low.out) (child (goal.at.loop-low-preserved c).In-Some))
+    gaps_again c.loop-low.invariant low
+    (c.tally_by_rows.ensures
+    ∙ ap (λ (v : ℕ). tallied (map census_place (leaves 2 v)) c.loop-low.out) (child (goal.at.loop-low-preserved c).In-Some))
     )
 
 pub returns : goal.returns
