@@ -72,8 +72,8 @@ abbrev pub walk_from : AtlasWalk → Walk
 walk_from w = record { genus = w.genus; word = w.word; window = record { lowest = w.lowest; highest = w.highest }; finished = eqb w.finished 1 }
 
 -- a walk as they hand it over: a finished mark that is neither 0 nor 1 is a walk out of order
-abbrev pub Handed : AtlasWalk → Result Walk Refusal → Type 0
-Handed w r = r ≡ cond (leb w.finished 1) (Ok (walk_from w)) (Err WalkOutOfOrder)
+abbrev pub HandedWalk : AtlasWalk → Result Walk Refusal → Type 0
+HandedWalk w r = r ≡ cond (leb w.finished 1) (Ok (walk_from w)) (Err WalkOutOfOrder)
 
 -- what they get where there is no walk
 abbrev pub no_walk : AtlasWalk

@@ -3,10 +3,12 @@
 // the call is refused.
 #![tactic(auto)]
 
-ghost use Rattle.std.specs.Prelude.{◌≡◌};
+ghost use Rattle.std.specs.Prelude.{◌≡◌, if◌then◌else◌, Some, None};
+ghost use Rattle.std.specs.Option.{option_map};
 ghost use Rattle.answers.specs.Answers.{answered, sought, sought_answered, number_of};
 ghost use Rattle.editor.specs.Answers.{said};
-ghost use Rattle.interface.specs.Interface.{number_in, table_in, found_in, shortest_in, report_in, walk_in, Handed, no_walk, begun_in, unmoved_in, moved_in, saved_in, editor_in, unchanged_in, changed_by};
+ghost use Rattle.interface.specs.Interface.{number_in, table_in, found_in, shortest_in, report_in, walk_in, HandedWalk, no_walk, begun_in, unmoved_in, moved_in, saved_in, editor_in, answer_from, unchanged_in, changed_by};
+ghost use Rattle.interface.specs.Private.{is_kept, HandedEditor};
 
 use answers::Refusal;
 use editor::Editor;
@@ -237,7 +239,7 @@ impl From<Walk> for AtlasWalk {
 impl TryFrom<AtlasWalk> for Walk {
     type Error = Refusal;
 
-    ghost try_from_gives = { Handed };
+    ghost try_from_gives = { HandedWalk };
 
     fn try_from(walk: AtlasWalk) -> Result<Walk, Refusal> {
         if 1 < walk.finished {
@@ -343,11 +345,42 @@ impl From<Editor> for AtlasEditor {
     ghost from_gives = { λ editor handed. handed ≡ editor_in (said editor) };
 
     fn from(editor: Editor) -> AtlasEditor {
+        let bytes = editor.bytes;
         AtlasEditor {
-            bytes: editor.bytes,
+            bytes,
             length: editor.length,
             answer: AtlasNumber::from(editor.answer),
         }
+    }
+}
+
+// The answer of a state that they hand over, if it is one that bytes without 0 are given: a word, or refused 8 or 9 with no value beside it.
+#[tactic(auto, unfolding(crate::specs::Private::is_kept, crate::specs::Interface::answer_from))]
+fn kept_answer(number: AtlasNumber) -> Option<Result<u64, Refusal>>
+    ensures { option_map answered result ≡ (if is_kept number then Some (answer_from number) else None) }
+{
+    match (number.refused, number.value) {
+        (0, word) => Some(Ok(word)),
+        (8, 0) => Some(Err(Refusal::CommonDivisor)),
+        (9, 0) => Some(Err(Refusal::TooManyGapsGenerated)),
+        _ => None,
+    }
+}
+
+// A state as they hand it over: with any other answer it is out of order.
+impl TryFrom<AtlasEditor> for Editor {
+    type Error = Refusal;
+
+    ghost try_from_gives = { HandedEditor };
+
+    fn try_from(editor: AtlasEditor) -> Result<Editor, Refusal> {
+        let bytes = editor.bytes;
+        let answer = kept_answer(editor.answer).ok_or(Refusal::EditorOutOfOrder)?;
+        Ok(Editor {
+            bytes,
+            length: editor.length,
+            answer,
+        })
     }
 }
 
@@ -363,11 +396,7 @@ impl AtlasChanged {
     }
 
     // What a change of a state that was handed over gives: `after` is the state afterwards.
-    pub fn made(
-        editor: AtlasEditor,
-        after: Editor,
-        answer: Result<(), Refusal>,
-    ) -> AtlasChanged
+    pub fn made(editor: AtlasEditor, after: Editor, answer: Result<(), Refusal>) -> AtlasChanged
         ensures { result ≡ changed_by editor (said after) (answered answer) }
     {
         match answer {
