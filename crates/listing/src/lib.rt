@@ -13,14 +13,14 @@ use answers::Refusal;
 use walk::Walk;
 
 // A listing under way: whether its header was written, and the walk over the semigroups whose lines were not.
-#[derive(Clone, Copy)]
+#[derive(Clone, Copy, Debug, PartialEq, Eq)]
 pub struct Listing {
     pub headed: bool,
     pub walk: Walk,
 }
 
 // What is told of a page: how many bytes it has, and whether it is the last.
-#[derive(Clone, Copy)]
+#[derive(Clone, Copy, Debug, PartialEq, Eq)]
 pub struct Page {
     pub bytes: usize,
     pub finished: bool,
