@@ -82,6 +82,10 @@ pub handed_on : {A : Type 0} (r : Result A Refusal) (e : Refusal) {a : Answer A}
 handed_on (Ok v) e h same = absurd h
 handed_on (Err d) e h same = ap (λ (r : Refusal). refused (number_of r)) h ∙ same
 
+-- so does a call into a lent list, which it leaves as it is
+pub listed_on : (r : Result ℕ Refusal) (e : Refusal) (lent : List ℕ) {a : ListAnswer} → IsErrAnd r (λ d. d ≡ e) → unchanged lent (number_of e) ≡ a → listed r lent ≡ a
+listed_on r e lent h same = ap (λ (x : Answer ℕ). record { answer = x; list = lent }) (handed_on r e h refl) ∙ same
+
 -- ---- questions
 
 -- a value is given after a question that is answered yes

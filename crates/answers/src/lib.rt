@@ -7,15 +7,15 @@ ghost use Rattle.semigroups.specs.Lists.{every};
 ghost use Rattle.answers.specs.Answers.{number_of};
 
 // An element of a set.
-#[derive(Clone, Copy)]
+#[derive(Clone, Copy, Debug, PartialEq, Eq)]
 pub struct Element(pub u64);
 
 // An index in the list of elements.
-#[derive(Clone, Copy)]
+#[derive(Clone, Copy, Debug, PartialEq, Eq)]
 pub struct Index(pub u64);
 
 // An offset from the conductor.
-#[derive(Clone, Copy)]
+#[derive(Clone, Copy, Debug, PartialEq, Eq)]
 pub struct Offset(pub u64);
 
 impl Element {
@@ -45,28 +45,28 @@ impl Index {
     }
 }
 
-// What is wrong with the arguments of a call: the question that they fail.
+// What is wrong with the arguments of a call: the question that they fail, with its number.
 #[derive(Clone, Copy, Debug, PartialEq, Eq)]
 pub enum Refusal {
-    TooManyGaps,
-    NotClosed,
-    GenusTooLarge,
-    WalkOutOfOrder,
-    NotAGenerator,
-    ListTooShort,
-    ZeroGenerator,
-    CommonDivisor,
-    TooManyGapsGenerated,
-    MalformedInput,
-    ZeroCoordinate,
-    CoordinateSumTooLarge,
-    FailedInequality,
-    EditorOutOfOrder,
-    EditorFull,
-    ByteNotHeld,
-    WrongJobVersion,
-    WrongJobLength,
-    WrongJobFields,
+    TooManyGaps = 1,
+    NotClosed = 2,
+    GenusTooLarge = 3,
+    WalkOutOfOrder = 4,
+    NotAGenerator = 5,
+    ListTooShort = 6,
+    ZeroGenerator = 7,
+    CommonDivisor = 8,
+    TooManyGapsGenerated = 9,
+    MalformedInput = 10,
+    ZeroCoordinate = 11,
+    CoordinateSumTooLarge = 12,
+    FailedInequality = 13,
+    EditorOutOfOrder = 14,
+    EditorFull = 15,
+    ByteNotHeld = 16,
+    WrongJobVersion = 17,
+    WrongJobLength = 18,
+    WrongJobFields = 19,
 }
 
 impl Refusal {
@@ -74,27 +74,7 @@ impl Refusal {
     pub fn number(self) -> u64
         ensures { result ≡ number_of self }
     {
-        match self {
-            Refusal::TooManyGaps => 1,
-            Refusal::NotClosed => 2,
-            Refusal::GenusTooLarge => 3,
-            Refusal::WalkOutOfOrder => 4,
-            Refusal::NotAGenerator => 5,
-            Refusal::ListTooShort => 6,
-            Refusal::ZeroGenerator => 7,
-            Refusal::CommonDivisor => 8,
-            Refusal::TooManyGapsGenerated => 9,
-            Refusal::MalformedInput => 10,
-            Refusal::ZeroCoordinate => 11,
-            Refusal::CoordinateSumTooLarge => 12,
-            Refusal::FailedInequality => 13,
-            Refusal::EditorOutOfOrder => 14,
-            Refusal::EditorFull => 15,
-            Refusal::ByteNotHeld => 16,
-            Refusal::WrongJobVersion => 17,
-            Refusal::WrongJobLength => 18,
-            Refusal::WrongJobFields => 19,
-        }
+        self as u64
     }
 }
 

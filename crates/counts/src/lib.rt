@@ -11,9 +11,8 @@ ghost use Rattle.nodes.specs.Branches.{branches};
 ghost use Rattle.nodes.specs.NewGaps.{Upper};
 ghost use Rattle.counts.specs.Counts.{count_of};
 
-use answers::{NumberAnswer, Refusal};
+use answers::Refusal;
 use nodes::Node;
-use tables::NodeAnswer;
 
 // How many words there are `left` levels below a node: one level below it, as many as the node says; two levels below a node whose conductor
 // is above its multiplicity, as many as rows 0 and 1 tell; three levels below a node whose conductor is above its second positive element, as
@@ -68,21 +67,16 @@ fn sum_from(word: u64, table: u64, c: u64, row: u64, left: u64) -> u64
 }
 
 // The number of semigroups of a genus whose smallest gaps are exactly the word's gaps: refused where the word is, and above genus 32.
-pub fn count(word: u64, genus: u64) -> NumberAnswer
+pub fn count(word: u64, genus: u64) -> Result<u64, Refusal>
     ensures { answered result ≡ count_of word genus }
 {
-    let answer = tables::node_of(word);
-    match answer {
-        NodeAnswer::Refused(r) => NumberAnswer::Refused(r),
-        NodeAnswer::Given(n) => {
-            if 32 < genus {
-                return NumberAnswer::Refused(Refusal::GenusTooLarge);
-            }
-            let own = words::genus_of(word);
-            if genus < own {
-                return NumberAnswer::Given(0);
-            }
-            NumberAnswer::Given(count_node(n, genus - own))
-        }
+    let n = tables::node_of(word)?;
+    if 32 < genus {
+        return Err(Refusal::GenusTooLarge);
     }
+    let own = words::genus_of(word);
+    if genus < own {
+        return Ok(0);
+    }
+    Ok(count_node(n, genus - own))
 }

@@ -5,6 +5,7 @@ use mathlib.Core.Path.{◌≡◌, sym, ◌∙◌, ap, subst}
 use mathlib.Core.Bool.{true, false}
 use mathlib.Core.List.{List, Memᴰ}
 use borrow.Author.Tests.{leb-true}
+use Rattle.std.specs.Prelude.{Ok}
 use Rattle.semigroups.specs.Lists.{on_from}
 use Rattle.semigroups.specs.Elements.{multiplicity}
 use Rattle.semigroups.specs.Tree.{leaves}
@@ -14,7 +15,7 @@ use Rattle.answers.specs.Answers.{refused}
 use Rattle.windows.specs.Windows.{holds}
 use Rattle.windows.proofs.Windows.{window_mem, window_on_from}
 use Rattle.windows.proofs.Held.{held_mem, held_small}
-use Rattle.lending.specs.Lending.{Lent, up_to, put_all}
+use Rattle.lending.specs.Lending.{Lent, put_all}
 use Rattle.descendants.specs.Descendants.{filled_given, write_from_of}
 use Rattle.descendants.specs.Cut.{from_multiplicity}
 
@@ -35,8 +36,8 @@ module _ (g lo hi w : ℕ) where
         (subst (Memᴰ w) (genus_list_leaves g from_small) (mem_genus_list g w h), low)
 
     -- and those from it on with at least the lowest multiplicity are written
-    pub from_leaves : (lent : List ℕ) {t : Lent} → t ≡ put_all (from_multiplicity lo (on_from w (leaves g 0))) (lent, up_to 0) → filled_given t ≡ write_from_of g lo hi w lent
+    pub from_leaves : (lent : List ℕ) {t : Lent} → t ≡ put_all (from_multiplicity lo (on_from w (leaves g 0))) (lent, Ok 0) → filled_given t ≡ write_from_of g lo hi w lent
     unfolding write_from_of from_multiplicity
     from_leaves lent e =
         let words = window_on_from g lo hi w (held_mem g lo hi w fits held) ∙ ap (λ (l : List ℕ). from_multiplicity lo (on_from w l)) (genus_list_leaves g from_small) in
-        rw held (ap filled_given (e ∙ ap (λ (l : List ℕ). put_all l (lent, up_to 0)) (sym words)))
+        rw held (ap filled_given (e ∙ ap (λ (l : List ℕ). put_all l (lent, Ok 0)) (sym words)))

@@ -1,33 +1,26 @@
 // The words below a word in the tree: of a genus the first of its descendants, and the words of a window from one on, written into a lent list.
 #![tactic(auto)]
 
-ghost use Rattle.std.specs.Prelude.{◌+◌, ◌≤◌, ◌<◌, ◌≡◌, length};
+ghost use Rattle.std.specs.Prelude.{◌+◌, ◌≤◌, ◌<◌, ◌≡◌, Ok};
 ghost use mathlib.Core.List.{head?, Memᴰ};
 ghost use Rattle.semigroups.specs.Lists.{on_from};
 ghost use Rattle.semigroups.specs.Words.{conductor};
 ghost use Rattle.semigroups.specs.Elements.{element_at, multiplicity};
 ghost use Rattle.semigroups.specs.Positions.{above};
 ghost use Rattle.semigroups.specs.Tree.{leaves};
-ghost use Rattle.answers.specs.Answers.{sought, sought_answered};
+ghost use Rattle.answers.specs.Answers.{answered, sought, sought_answered};
 ghost use Rattle.nodes.specs.Nodes.{first_row};
 ghost use Rattle.nodes.specs.Levels.{NodeWithLevels};
 ghost use Rattle.nodes.specs.Branches.{branches, Offsets};
 ghost use Rattle.nodes.specs.NewGaps.{TwoRows, Upper};
-ghost use Rattle.lending.specs.Lending.{up_to, put_all};
-ghost use Rattle.descendants.specs.Descendants.{first_descendant_of, filled_answered, write_from_of};
+ghost use Rattle.lending.specs.Lending.{put_all};
+ghost use Rattle.descendants.specs.Descendants.{first_descendant_of, write_from_of};
 ghost use Rattle.descendants.specs.Cut.{from_multiplicity};
 
-use answers::{Found, FoundAnswer, Offset, Refusal};
-use lending::Filled;
+use answers::{Offset, Refusal};
+use lending::NoRoom;
 use nodes::Node;
-use tables::NodeAnswer;
-
-// The answer of the call that writes the words of a window from a word on.
-#[derive(Clone, Copy)]
-pub enum FilledAnswer {
-    Refused(Refusal),
-    Given(Filled),
-}
+use windows::Window;
 
 // Those of a row's offsets that come after one.
 fn later(row: u64, offset: Offset) -> u64
@@ -39,11 +32,10 @@ fn later(row: u64, offset: Offset) -> u64
 }
 
 // Writes the children of a node at the offsets that are the bits of `row`.
-fn put_children(n: Node, row: u64, at: usize, out: &mut [u64]) -> Filled
+fn put_children(n: Node, row: u64, at: usize, out: &mut [u64]) -> Result<usize, NoRoom>
     requires node_with_levels { NodeWithLevels 1 n }
     requires offsets { Offsets n.word row }
-    requires at_in_bounds { at ≤ length out.old }
-    ensures { (out.new, result) ≡ put_all (branches 0 n.word row) (out.old, up_to at) }
+    ensures { (out.new, result) ≡ put_all (branches 0 n.word row) (out.old, Ok at) }
 {
     lending::put_bits(n.word, row << (n.conductor - 1), at, out)
 }
@@ -58,32 +50,26 @@ fn put_by_rows(
     m: u64,
     from: usize,
     out: &mut [u64],
-) -> Filled
+) -> Result<usize, NoRoom>
     requires two_rows { TwoRows word m generators seeds }
-    requires from_in_bounds { from ≤ length out.old }
-    ensures { (out.new, result) ≡ put_all (leaves 2 word) (out.old, up_to from) }
+    ensures { (out.new, result) ≡ put_all (leaves 2 word) (out.old, Ok from) }
 {
     let mut rest = generators;
     let mut at = from;
     while rest != 0 {
         let low = nodes::lowest_of(rest);
         let e = rest - low.rest;
-        let t = lending::put_bits(word + e, low.rest | (seeds & e) << m, at, out);
-        if out.len() < t.at {
-            return t;
-        }
-        at = t.at;
+        at = lending::put_bits(word + e, low.rest | (seeds & e) << m, at, out)?;
         rest = low.rest;
     }
-    Filled { at, next: 0 }
+    Ok(at)
 }
 
 // Writes the words two levels below a node whose conductor is above its multiplicity, from rows 0 and 1 alone.
-fn put_grandchildren(n: Node, at: usize, out: &mut [u64]) -> Filled
+fn put_grandchildren(n: Node, at: usize, out: &mut [u64]) -> Result<usize, NoRoom>
     requires node_with_levels { NodeWithLevels 2 n }
     requires word_bound { multiplicity n.word < conductor n.word }
-    requires at_in_bounds { at ≤ length out.old }
-    ensures { (out.new, result) ≡ put_all (leaves 2 n.word) (out.old, up_to at) }
+    ensures { (out.new, result) ≡ put_all (leaves 2 n.word) (out.old, Ok at) }
 {
     let up = n.conductor - 1;
     let m = words::multiplicity_of(n.word);
@@ -100,11 +86,10 @@ fn put_grandchildren(n: Node, at: usize, out: &mut [u64]) -> Filled
 // Writes the words three levels below a node whose conductor is above its second positive element, from rows 0, 1 and 2 alone: for each
 // generator e, in order, those two levels below the word without e. Its generators are the later ones and, where e is an order-one seed, e + m;
 // its order-one seeds are the later ones and, where e is an order-two seed, e + u, with u the length of row 1.
-fn put_great_grandchildren(n: Node, from: usize, out: &mut [u64]) -> Filled
+fn put_great_grandchildren(n: Node, from: usize, out: &mut [u64]) -> Result<usize, NoRoom>
     requires node_with_levels { NodeWithLevels 3 n }
     requires word_bound { element_at n.word 2 < conductor n.word }
-    requires from_in_bounds { from ≤ length out.old }
-    ensures { (out.new, result) ≡ put_all (leaves 3 n.word) (out.old, up_to from) }
+    ensures { (out.new, result) ≡ put_all (leaves 3 n.word) (out.old, Ok from) }
 {
     let w = n.word;
     let up = n.conductor - 1;
@@ -117,44 +102,35 @@ fn put_great_grandchildren(n: Node, from: usize, out: &mut [u64]) -> Filled
     while rest != 0 {
         let low = nodes::lowest_of(rest);
         let e = rest - low.rest;
-        let t = put_by_rows(
+        at = put_by_rows(
             w + e,
             low.rest | (seeds & e) << m,
             seeds | (last & e) << u,
             m,
             at,
             out,
-        );
-        if out.len() < t.at {
-            return t;
-        }
-        at = t.at;
+        )?;
         rest = low.rest;
     }
-    Filled { at, next: 0 }
+    Ok(at)
 }
 
 // Writes the words `left` levels below a node, one level or more; without generators it has none.
 #[cycle(emit_emit_from)]
-fn emit(n: Node, left: u64, at: usize, out: &mut [u64]) -> Filled
+fn emit(n: Node, left: u64, at: usize, out: &mut [u64]) -> Result<usize, NoRoom>
     requires le_left { 1 ≤ left }
     requires node_with_levels { NodeWithLevels left n }
-    requires at_in_bounds { at ≤ length out.old }
-    ensures { (out.new, result) ≡ put_all (leaves left n.word) (out.old, up_to at) }
+    ensures { (out.new, result) ≡ put_all (leaves left n.word) (out.old, Ok at) }
 {
     let row = n.first_row();
     if row == 0 {
-        return Filled { at, next: 0 };
+        return Ok(at);
     }
-    if left == 2 {
-        if words::multiplicity_of(n.word) < n.conductor {
-            return put_grandchildren(n, at, out);
-        }
+    if left == 2 && words::multiplicity_of(n.word) < n.conductor {
+        return put_grandchildren(n, at, out);
     }
-    if left == 3 {
-        if n.second_element() < n.conductor {
-            return put_great_grandchildren(n, at, out);
-        }
+    if left == 3 && n.second_element() < n.conductor {
+        return put_great_grandchildren(n, at, out);
     }
     emit_from(n, row, left - 1, at, out)
 }
@@ -162,11 +138,10 @@ fn emit(n: Node, left: u64, at: usize, out: &mut [u64]) -> Filled
 // Writes those `left` levels below the children of a node whose offsets are the bits of `row`, those of row 0 from one on. A child without
 // generators is not made.
 #[cycle(emit_emit_from)]
-fn emit_from(n: Node, row: u64, left: u64, from: usize, out: &mut [u64]) -> Filled
+fn emit_from(n: Node, row: u64, left: u64, from: usize, out: &mut [u64]) -> Result<usize, NoRoom>
     requires node_with_levels { NodeWithLevels (left + 1) n }
     requires upper { Upper (first_row n) row }
-    requires from_in_bounds { from ≤ length out.old }
-    ensures { (out.new, result) ≡ put_all (branches left n.word row) (out.old, up_to from) }
+    ensures { (out.new, result) ≡ put_all (branches left n.word row) (out.old, Ok from) }
 {
     if left == 0 {
         return put_children(n, row, from, out);
@@ -176,84 +151,80 @@ fn emit_from(n: Node, row: u64, left: u64, from: usize, out: &mut [u64]) -> Fill
     while rest != 0 {
         let low = nodes::lowest_of(rest);
         if !n.is_childless_at(low) {
-            let t = emit(n.child(low.at), left, at, out);
-            if out.len() < t.at {
-                return t;
-            }
-            at = t.at;
+            at = emit(n.child(low.at), left, at, out)?;
         }
         rest = low.rest;
     }
-    Filled { at, next: 0 }
+    Ok(at)
 }
 
 // Writes the words `left` levels below a node from `word` on, which is one of them, that have at least the lowest multiplicity: first those
 // below the child that has it. All later ones have the multiplicity of the node, so that below the lowest they are cut.
-fn resume(n: Node, word: u64, left: u64, lowest: u8, at: usize, out: &mut [u64]) -> Filled
+fn resume(
+    n: Node,
+    word: u64,
+    left: u64,
+    lowest: u8,
+    at: usize,
+    out: &mut [u64],
+) -> Result<usize, NoRoom>
     requires node_with_levels { NodeWithLevels left n }
     requires fact { Memᴰ word (leaves left n.word) }
     requires lowest_bound { lowest ≤ multiplicity word }
-    requires at_in_bounds { at ≤ length out.old }
-    ensures { (out.new, result) ≡ put_all (from_multiplicity lowest (on_from word (leaves left n.word))) (out.old, up_to at) }
+    ensures { (out.new, result) ≡ put_all (from_multiplicity lowest (on_from word (leaves left n.word))) (out.old, Ok at) }
 {
     if left == 0 {
         return lending::put(word, at, out);
     }
     let d = n.next_offset(word);
-    let t = resume(n.child(d), word, left - 1, lowest, at, out);
-    if out.len() < t.at {
-        return t;
-    }
+    let next = resume(n.child(d), word, left - 1, lowest, at, out)?;
     if words::multiplicity_of(n.word) < lowest as u64 {
-        return t;
+        return Ok(next);
     }
-    emit_from(n, later(n.first_row(), d), left - 1, t.at, out)
+    emit_from(n, later(n.first_row(), d), left - 1, next, out)
 }
 
 // The first of the words `left` levels below a node, or that there is none: the one that finds no room in a list without places.
-fn first_leaf(n: Node, left: u64) -> Found
+fn first_leaf(n: Node, left: u64) -> Option<u64>
     requires { NodeWithLevels left n }
     ensures { sought result ≡ head? (leaves left n.word) }
 {
     if left == 0 {
-        return Found::Number(n.word);
+        return Some(n.word);
     }
-    let mut places = [0u64; 0];
-    let s = emit_from(n, n.first_row(), left - 1, 0, &mut places);
-    if 0 < s.at {
-        return Found::Number(s.next);
-    }
-    Found::Nothing
+    emit_from(n, n.first_row(), left - 1, 0, &mut [])
+        .err()
+        .map(|full| full.next)
 }
 
 // Writes the words of a window of a genus from a word on, in list order, as far as the list lasts: refused where the window does not hold the
 // word, and then nothing is written.
-pub fn write_from(genus: u64, word: u64, lowest: u8, highest: u8, out: &mut [u64]) -> FilledAnswer
-    ensures { (filled_answered result, out.new) ≡ write_from_of genus lowest highest word out.old }
+pub fn write_from(
+    genus: u64,
+    word: u64,
+    window: Window,
+    out: &mut [u64],
+) -> Result<Result<usize, NoRoom>, Refusal>
+    ensures { (answered result, out.new) ≡ write_from_of genus window.lowest window.highest word out.old }
 {
-    if !windows::has_word(genus, word, lowest, highest) {
-        return FilledAnswer::Refused(Refusal::WalkOutOfOrder);
+    if !window.has_word(genus, word) {
+        return Err(Refusal::WalkOutOfOrder);
     }
-    FilledAnswer::Given(resume(Node::root(), word, genus, lowest, 0, out))
+    Ok(resume(Node::root(), word, genus, window.lowest, 0, out))
 }
 
 // The first semigroup in list order of a genus whose smallest gaps are exactly the word's gaps, or that there is none: refused where the word
 // is, and above genus 32.
-pub fn first_descendant(word: u64, genus: u64) -> FoundAnswer
+pub fn first_descendant(word: u64, genus: u64) -> Result<Option<u64>, Refusal>
     ensures { sought_answered result ≡ first_descendant_of word genus }
 {
-    let answer = tables::node_of(word);
-    match answer {
-        NodeAnswer::Refused(r) => FoundAnswer::Refused(r),
-        NodeAnswer::Given(n) => {
-            if 32 < genus {
-                return FoundAnswer::Refused(Refusal::GenusTooLarge);
-            }
-            let own = words::genus_of(word);
-            if genus < own {
-                return FoundAnswer::Given(Found::Nothing);
-            }
-            FoundAnswer::Given(first_leaf(n, genus - own))
-        }
+    let n = tables::node_of(word)?;
+    if 32 < genus {
+        return Err(Refusal::GenusTooLarge);
     }
+    let own = words::genus_of(word);
+    if genus < own {
+        return Ok(None);
+    }
+    Ok(first_leaf(n, genus - own))
 }

@@ -8,7 +8,7 @@ use mathlib.Core.List.{List, map, Memᴰ}
 use native.Mathlib.Omega.{arith}
 use lib.Dec.{leb, ltb}
 use lib.ListN.{length, length-map}
-use borrow.Author.Tests.{leb-true, le-leb, ltb-true, lt-ltb}
+use borrow.Author.Tests.{leb-true, le-leb, ltb-true, lt-ltb, lt-leb}
 use Rattle.semigroups.specs.Words.{gaps, genus, word_of}
 use Rattle.semigroups.specs.GenusList.{genus_list, Before, Earlier}
 use Rattle.semigroups.proofs.Booleans.{not_both, by_value}
@@ -17,7 +17,7 @@ use Rattle.semigroups.proofs.Words.{GapList, word_lt, gaps_of_word, word_of_gaps
 use Rattle.semigroups.proofs.Closure.{closed_iff}
 use Rattle.semigroups.proofs.ListOrder.{earlier_asym}
 use Rattle.semigroups.proofs.GenusList.{genus_list_mem, mem_genus_list, genus_list_ordered, kept_all}
-use Rattle.answers.specs.Answers.{given}
+use Rattle.answers.specs.Answers.{refused, given}
 use Rattle.elementary.specs.Elementary.{IsElementary, elementary, elementary_list, elementary_count, AllElementary, binomial, in_range, formula}
 use Rattle.elementary.specs.Answers.{elementary_of}
 use Rattle.elementary.proofs.Gaps.{ElementaryGaps, elementary_range, gap_lists, length_gap_lists, gap_lists_mem, mem_gap_lists, gap_lists_ordered}
@@ -97,3 +97,17 @@ module _ (F g : ℕ) (small : g ≤ 32) where
 pub elementary_formula : (F g : ℕ) → g ≤ 32 → elementary_of F g ≡ given (formula F g)
 unfolding elementary_of
 elementary_formula F g h = rw (le-leb g 32 h, count_formula F g h)
+
+-- the answer by the arguments: a genus above 32, a largest gap inside the range, and one outside
+
+pub elementary_refused : (F g : ℕ) → 32 < g → elementary_of F g ≡ refused 3
+unfolding elementary_of
+elementary_refused F g large = rw (lt-leb g 32 large)
+
+pub elementary_inside : (F g : ℕ) → g ≤ 32 → g ≤ F → F < 2 * g → elementary_of F g ≡ given (binomial ((F + 1) / 2 - 1) (F - g))
+unfolding elementary_of
+elementary_inside F g small a b = rw (le-leb g 32 small, count_inside F g small a b)
+
+pub elementary_outside : (F g : ℕ) → g ≤ 32 → (g ≤ F → F < 2 * g → ⊥) → elementary_of F g ≡ given 0
+unfolding elementary_of
+elementary_outside F g small out = rw (le-leb g 32 small, count_outside F g small out)

@@ -6,7 +6,7 @@ ghost use Rattle.answers.specs.Answers.{answered};
 ghost use Rattle.elementary.specs.Elementary.{binomial as choose};
 ghost use Rattle.elementary.specs.Answers.{elementary_of};
 
-use answers::{NumberAnswer, Refusal};
+use answers::Refusal;
 
 mod pascal;
 
@@ -15,21 +15,19 @@ fn binomial(n: u64, k: u64) -> u64
     requires { (n < 32) × (k < 32) }
     ensures { result ≡ choose n k }
 {
-    pascal::PASCAL[(n * 32 + k) as usize]
+    pascal::PASCAL[n as usize][k as usize]
 }
 
 // How many semigroups of the genus are elementary with this largest gap: none but for one from the genus to twice the genus, less 1.
-pub fn elementary(frobenius: u64, genus: u64) -> NumberAnswer
+#[tactic(auto, using(crate::proofs::Counts::elementary_refused, crate::proofs::Counts::elementary_inside, crate::proofs::Counts::elementary_outside))]
+pub fn elementary(frobenius: u64, genus: u64) -> Result<u64, Refusal>
     ensures { answered result ≡ elementary_of frobenius genus }
 {
     if 32 < genus {
-        return NumberAnswer::Refused(Refusal::GenusTooLarge);
+        return Err(Refusal::GenusTooLarge);
     }
-    if frobenius < genus {
-        return NumberAnswer::Given(0);
+    if !(genus..2 * genus).contains(&frobenius) {
+        return Ok(0);
     }
-    if 2 * genus <= frobenius {
-        return NumberAnswer::Given(0);
-    }
-    NumberAnswer::Given(binomial((frobenius + 1) / 2 - 1, frobenius - genus))
+    Ok(binomial((frobenius + 1) / 2 - 1, frobenius - genus))
 }

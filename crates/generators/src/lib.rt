@@ -10,9 +10,8 @@ ghost use Rattle.nodes.specs.Levels.{NodeWithLevels};
 ghost use Rattle.generators.specs.Generators.{generators_of};
 ghost use Rattle.generators.specs.Private.{low_generator};
 
-use answers::{NumberAnswer, Refusal};
+use answers::Refusal;
 use nodes::Node;
-use tables::NodeAnswer;
 
 // Writes `first + i` for each standing bit i, in rising order, from the place `start` on. The place after them.
 fn write_bits(bits: u64, first: u64, start: usize, out: &mut [u8]) -> usize
@@ -35,7 +34,7 @@ fn low_generators(word: u64, c: u64) -> u64
     ensures { result ≡ bits_from (low_generator word) 1 }
 {
     let elements = !word & ((1 << (c - 1)) - 1);
-    let mut sums: u64 = 0;
+    let mut sums = 0;
     for k in 0..63u64 {
         if elements >> k & 1 == 1 {
             sums |= elements << (k + 1);
@@ -48,11 +47,11 @@ fn low_generators(word: u64, c: u64) -> u64
 fn standing_bits(bits: u64) -> usize
     ensures { result ≡ length (positions bits) }
 {
-    u64::count_ones(bits) as usize
+    bits.count_ones() as usize
 }
 
 // The minimal generators of the word of a node into the lent list: those below the conductor, and those that row 0 of the table tells.
-fn generators_of(n: Node, out: &mut [u8]) -> NumberAnswer
+fn generators_of(n: Node, out: &mut [u8]) -> Result<u64, Refusal>
     requires { NodeWithLevels 0 n }
     ensures { listed result out.new ≡ generators_of n.word out.old }
 {
@@ -60,21 +59,18 @@ fn generators_of(n: Node, out: &mut [u8]) -> NumberAnswer
     let low = low_generators(n.word, c);
     let count = standing_bits(low) + n.generators() as usize;
     if out.len() < count {
-        return NumberAnswer::Refused(Refusal::ListTooShort);
+        return Err(Refusal::ListTooShort);
     }
     let at = write_bits(low, 1, 0, out);
     let end = write_bits(n.first_row(), c, at, out);
-    NumberAnswer::Given(end as u64)
+    Ok(end as u64)
 }
 
 // The minimal generators of a word in rising order, as bytes into the lent list; their number is given. Refused with more than 32 gaps,
 // a set that is not closed under addition, or a list that does not hold them all: then nothing is written.
-pub fn generators(word: u64, out: &mut [u8]) -> NumberAnswer
+pub fn generators(word: u64, out: &mut [u8]) -> Result<u64, Refusal>
     ensures { listed result out.new ≡ generators_of word out.old }
 {
-    let answer = tables::node_of(word);
-    match answer {
-        NodeAnswer::Refused(r) => NumberAnswer::Refused(r),
-        NodeAnswer::Given(n) => generators_of(n, out),
-    }
+    let n = tables::node_of(word)?;
+    generators_of(n, out)
 }

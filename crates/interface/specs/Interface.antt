@@ -1,8 +1,10 @@
 -- Answers as the structs that C callers get: of a call that can be refused the number of the refusal first, 0 for an answer, then the values,
 -- 0 where refused. Assumes nothing: these are definitions.
-use Rattle.std.specs.Prelude.{ℕ, Bool, true, false, cond, ◌||◌, List, [], ◌∷◌, eqb, leb, pos}
+use Rattle.std.specs.Prelude.{◌≡◌, Result, Ok, Err, ℕ, Bool, true, false, cond, ◌||◌, List, [], ◌∷◌, eqb, leb, pos}
 use Rattle.std.proofs.Math.Option.{Option, none, some}
 use Rattle.answers.specs.Answers.{Answer, refused, given, ask, ListAnswer, unchanged}
+use Rattle.answers.specs.declared.Refusal.{Refusal}
+use Rattle.answers.specs.declared.Refusal.TheVariants.{WalkOutOfOrder}
 use Rattle.words.specs.declared.Report.{Report}
 use Rattle.tables.specs.declared.Table.{Table}
 use Rattle.walk.specs.declared.Walk.{Walk}
@@ -63,11 +65,15 @@ mark_in false = 0
 
 -- a walk as C callers get it
 abbrev pub walk_in : Walk → AtlasWalk
-walk_in w = record { genus = w.genus; word = w.word; lowest = w.lowest; highest = w.highest; finished = mark_in w.finished }
+walk_in w = record { genus = w.genus; word = w.word; lowest = w.window.lowest; highest = w.window.highest; finished = mark_in w.finished }
 
 -- and as they hand it over, with a finished mark of 0 or 1
 abbrev pub walk_from : AtlasWalk → Walk
-walk_from w = record { genus = w.genus; word = w.word; lowest = w.lowest; highest = w.highest; finished = eqb w.finished 1 }
+walk_from w = record { genus = w.genus; word = w.word; window = record { lowest = w.lowest; highest = w.highest }; finished = eqb w.finished 1 }
+
+-- a walk as they hand it over: a finished mark that is neither 0 nor 1 is a walk out of order
+abbrev pub HandedWalk : AtlasWalk → Result Walk Refusal → Type 0
+HandedWalk w r = r ≡ cond (leb w.finished 1) (Ok (walk_from w)) (Err WalkOutOfOrder)
 
 -- what they get where there is no walk
 abbrev pub no_walk : AtlasWalk

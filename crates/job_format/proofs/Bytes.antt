@@ -1,13 +1,13 @@
 -- Numbers as bytes: as many as are asked for, and a number that fits is read back from them. Assumes nothing.
-use Prim.Native.Nat.{ℕ, zero, suc, ◌+◌, ◌*◌, ◌/◌, ◌%◌, ◌^◌, ◌≤◌, ◌<◌}
+use Prim.Native.Nat.{ℕ, zero, suc, ◌+◌, ◌-◌, ◌*◌, ◌/◌, ◌%◌, ◌^◌, ◌≤◌, ◌<◌}
 use mathlib.Core.Path.{◌≡◌, refl, sym, ap, ap₂, ◌∙◌, subst}
 use mathlib.Core.List.{List, [], ◌∷◌, ◌++◌, Memᴰ}
 use native.Mathlib.Omega.{arith}
 use native.Mathlib.Nat.{pow-suc, pow-le-pow_right, div-one}
-use native.Mathlib.Numerals.{add-one}
-use lib.Pow.{shr-shr}
-use lib.ListN.{length, get_or, take, drop, take-append-drop, length-take, length-drop, drop_of_length-le}
-use lib.Seq.{drop-cons, get_or-take, get_or-drop}
+use Rattle.std.proofs.Math.Nat.{div-div-eq-div-mul}
+use Rattle.std.specs.Int.{w64, byte_at, bytes_low_first, to_le_bytes, from_le_bytes}
+use Rattle.std.proofs.lemmas.List.{drop-replicate, length-replicate}
+use lib.ListN.{length, get_or, take, drop, replicate, length-append, take-append-drop, length-take, length-drop}
 use Rattle.semigroups.specs.Lists.{Bytes}
 use Rattle.job_format.specs.Bytes.{bytes_of, value_of}
 
@@ -30,13 +30,54 @@ unfolding bytes_of value_of
 bytes_value zero v h = omega arith
 bytes_value (suc n) v h = omega (arith, bytes_value n (v / 256) (omega (arith, pow-suc 256 n)))
 
--- one byte more: the lowest of what is left of the number
-pub bytes_more : (n v : ℕ) → bytes_of (suc n) v ≡ bytes_of n v ++ (v / 2 ^ (8 * n) % 256) ∷ []
+-- ---- the library's bytes
+
+-- the lowest n of the bytes of a number from byte i upward
+low_bytes : (n i k v : ℕ) → n ≤ k → take n (bytes_low_first i k v) ≡ bytes_of n (v / 256 ^ i)
 unfolding bytes_of
-bytes_more zero v = ap (λ (x : ℕ). x % 256 ∷ []) (sym (div-one v))
-bytes_more (suc n) v =
-    let further : 8 + 8 * n ≡ 8 * suc n = omega arith in
-    ap (λ (l : List ℕ). v % 256 ∷ l) (bytes_more n (v / 256) ∙ ap (λ (x : ℕ). bytes_of n (v / 256) ++ (x % 256) ∷ []) (shr-shr v 8 (8 * n) ∙ ap (λ (k : ℕ). v / 2 ^ k) further))
+low_bytes zero i k v h = refl
+low_bytes (suc n) i zero v h = absurd (omega arith)
+low_bytes (suc n) i (suc k) v h = ap₂ ◌∷◌ (low i) (low_bytes n (suc i) k v (omega arith) ∙ ap (bytes_of n) further)
+  where
+    low : (i : ℕ) → byte_at i v ≡ v / 256 ^ i % 256
+    low zero = ap (λ (x : ℕ). x % 256) (sym (div-one v))
+    low (suc i) = refl
+
+    further : v / 256 ^ suc i ≡ v / 256 ^ i / 256
+    further = ap (λ (p : ℕ). v / p) (pow-suc 256 i) ∙ sym (div-div-eq-div-mul v (256 ^ i) 256)
+
+-- of its 8 bytes, the lowest n
+pub lowest_bytes : (n v : ℕ) → n ≤ 8 → take n (to_le_bytes w64 v) ≡ bytes_of n v
+lowest_bytes n v few = low_bytes n 0 8 v few ∙ ap (bytes_of n) (div-one v)
+
+-- at most 8 bytes have their number
+eight_bytes : (l : List ℕ) → length l ≤ 8 → from_le_bytes w64 l ≡ value_of l
+unfolding value_of
+eight_bytes [] long = refl
+eight_bytes (a ∷ []) long = omega arith
+eight_bytes (a ∷ b ∷ []) long = omega arith
+eight_bytes (a ∷ b ∷ c ∷ []) long = omega arith
+eight_bytes (a ∷ b ∷ c ∷ d ∷ []) long = omega arith
+eight_bytes (a ∷ b ∷ c ∷ d ∷ e ∷ []) long = omega arith
+eight_bytes (a ∷ b ∷ c ∷ d ∷ e ∷ f ∷ []) long = omega arith
+eight_bytes (a ∷ b ∷ c ∷ d ∷ e ∷ f ∷ g ∷ []) long = omega arith
+eight_bytes (a ∷ b ∷ c ∷ d ∷ e ∷ f ∷ g ∷ h ∷ []) long = omega arith
+eight_bytes (a ∷ b ∷ c ∷ d ∷ e ∷ f ∷ g ∷ h ∷ i ∷ l) long = absurd (omega arith)
+
+-- bytes of 0 above others add nothing
+zeros_above : (l : List ℕ) (n : ℕ) → value_of (l ++ replicate n 0) ≡ value_of l
+unfolding value_of
+zeros_above [] zero = refl
+zeros_above [] (suc n) = omega (arith, zeros_above [] n)
+zeros_above (b ∷ l) n = ap (λ (v : ℕ). b + v * 256) (zeros_above l n)
+
+-- 8 bytes, those above the first n being 0
+pub padded_value : (n : ℕ) (l : List ℕ) → n ≤ 8 → length l ≡ n → from_le_bytes w64 (l ++ drop n (replicate 8 0)) ≡ value_of l
+padded_value n l few long =
+    let padded : drop n (replicate 8 0) ≡ replicate (8 - n) 0 = drop-replicate n 8 0 in
+    ap (λ (k : List ℕ). from_le_bytes w64 (l ++ k)) padded
+    ∙ eight_bytes (l ++ replicate (8 - n) 0) (omega (arith, length-append l (replicate (8 - n) 0), length-replicate {A = ℕ} (8 - n) 0))
+    ∙ zeros_above l (8 - n)
 
 -- ---- lists of bytes
 
@@ -80,14 +121,3 @@ module _ (place size : ℕ) (l : List ℕ) (within : place + size ≤ length l) 
   -- as many as are asked for
   pub part_length : length Part ≡ size
   part_length = length-take size (drop place l) ∙ omega (arith, length-drop place l)
-
-  -- there is nothing after them
-  pub part_end : drop size Part ≡ []
-  part_end = drop_of_length-le Part {i = size} (omega (arith, part_length))
-
-  -- those from i on are the one at i and those after it
-  pub part_from : (i : ℕ) → i < size → value_of (drop i Part) ≡ value_of (drop (i + 1) Part) * 256 + get_or l (place + i) 0
-  unfolding value_of
-  part_from i h =
-      ap value_of (drop-cons Part i 0 (omega (arith, part_length)))
-      ∙ rw (add-one i) (omega (arith, get_or-take size (drop place l) i 0 h ∙ get_or-drop place l i 0))

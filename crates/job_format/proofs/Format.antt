@@ -4,6 +4,8 @@ use Prim.Native.Nat.{ℕ, zero, suc, ◌+◌, ◌*◌, ◌^◌, ◌≤◌, ◌<�
 use mathlib.Core.Path.{◌≡◌, refl, sym, ◌∙◌, ap, ap₂, subst}
 use mathlib.Core.Logic.{◌≢◌}
 use mathlib.Core.Bool.{true, false, not, ◌||◌, and-eq-true_iff}
+use Rattle.std.specs.Prelude.{if◌then◌else◌, Some, None, unwrap_or, sum_by}
+use Rattle.std.specs.List.{range_with_len}
 use mathlib.Core.List.Memᴰ
 use mathlib.Core.List.{List, [], ◌∷◌, ◌++◌, append_assoc}
 use native.Mathlib.Omega.{arith}
@@ -16,6 +18,7 @@ use borrow.Author.Tests.{ltb-true, leb-true, le-leb, ne_eqb}
 use Rattle.semigroups.specs.Lists.{Bytes, run, every, member_of, joined, sum_over}
 use Rattle.semigroups.specs.Words.{bit}
 use Rattle.semigroups.proofs.Booleans.{by_value}
+use Rattle.semigroups.proofs.Library.{run_range, sum_over_by}
 use Rattle.semigroups.proofs.Lists.{every_entry, run_below, run_last, rises, joined_append, joined_last, sum_append, length_joined, sum_same}
 use Rattle.job_format.specs.Bytes.{bytes_of, value_of}
 use Rattle.job_format.specs.Format.{field_widths, field_width, version_has, bits_before, field_size, field_place, job_length, value_or, field_bytes, laid_before, laid, map_in, field_in, has_version, version_in, fields_in}
@@ -42,6 +45,21 @@ no_bits v i low a b c d = (
   rw (ne_eqb 0 i (λ e. omega arith), ne_eqb 1 i (λ e. omega arith), ne_eqb 2 i (λ e. omega arith), ne_eqb 3 i (λ e. a (sym e)), ne_eqb 5 i (λ e. c (sym e)), ne_eqb 7 i (λ e. d (sym e)), ne_eqb i 4 b)
       refl,
 )
+
+-- a bit that version 2 has not has no bytes
+pub width_had : (i : ℕ) → unwrap_or (if version_has 2 i then Some (field_width i) else None) 0 ≡ field_width i
+unfolding field_width version_has member_of every
+width_had zero = refl
+width_had (suc zero) = refl
+width_had (suc (suc zero)) = refl
+width_had (suc (suc (suc zero))) = refl
+width_had (suc (suc (suc (suc zero)))) = refl
+width_had (suc (suc (suc (suc (suc zero))))) = refl
+width_had (suc (suc (suc (suc (suc (suc zero)))))) = refl
+width_had (suc (suc (suc (suc (suc (suc (suc zero))))))) = refl
+width_had (suc (suc (suc (suc (suc (suc (suc (suc i)))))))) =
+    let (none, lacking) = no_bits 2 (suc (suc (suc (suc (suc (suc (suc (suc i)))))))) (omega arith) (λ e. omega arith) (λ e. omega arith) (λ e. omega arith) (λ e. omega arith) in
+    rw (sym lacking) none
 
 -- a field has at most 8 bytes
 pub width_le : (i : ℕ) → field_width i ≤ 8
@@ -105,6 +123,11 @@ module _ (m : ℕ) where
   pub place_pos : (i : ℕ) → 0 < field_place m i
   unfolding field_place
   place_pos i = omega arith
+
+  -- the sum of the sizes before, in the library's words
+  pub place_sum : (i : ℕ) → field_place m i ≡ 1 + field_size m 7 + sum_by (field_size m) (range_with_len 0 i)
+  unfolding field_place sum_over
+  place_sum i = omega (arith, sum_over_by (field_size m) (run 0 i), ap (sum_by (field_size m)) (run_range 0 i))
 
   -- places are small numbers
   pub place_le : (i : ℕ) → field_place m i ≤ 9 + i * 8

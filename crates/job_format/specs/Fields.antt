@@ -1,30 +1,24 @@
 -- What the call that reads the fields of a job answers, for every list of bytes. Assumes nothing: these are definitions.
-use Rattle.std.specs.Prelude.{ℕ, Bool, ◌&&◌, List, [], ◌∷◌, eqb, leb, length, get_or}
-use Rattle.answers.specs.Answers.{Answer, refused, given, number_of, ask}
+use Rattle.std.specs.Prelude.{ℕ, Bool, ◌&&◌, if◌then◌else◌, List, eqb, leb, length, Option, Some, None}
+use Rattle.semigroups.specs.Words.{bit}
+use Rattle.answers.specs.Answers.{Answer, refused, given, ask}
 use Rattle.job_format.specs.Format.{job_length, map_in, field_in, has_version, version_in, has_bits}
 use Rattle.job_format.specs.declared.Fields.{Fields}
-use Rattle.job_format.specs.declared.FieldsAnswer.{FieldsAnswer}
-use Rattle.job_format.specs.declared.FieldsAnswer.TheVariants as F
 
--- what the cases of `FieldsAnswer` say
-abbrev pub fields_as : FieldsAnswer → Answer Fields
-fields_as (F.Refused r) = refused (number_of r)
-fields_as (F.Given f) = given f
+-- the value of the field of bit i, where the bit stands
+unfoldable pub field_or_none : List ℕ → ℕ → Option ℕ
+field_or_none job i = if bit (map_in job) i then Some (field_in job i) else None
 
--- the bit map and the fields of a job
+-- the fields of a job, and whether the finished mark stands
 unfoldable pub all_in : List ℕ → Fields
 all_in job = record {
-  map = map_in job;
-  genus = field_in job 0;
-  lowest = field_in job 1;
-  highest = field_in job 2;
-  word = field_in job 3;
-  written = field_in job 4;
+  genus = field_or_none job 0;
+  lowest = field_or_none job 1;
+  highest = field_or_none job 2;
+  word = field_or_none job 3;
+  written = field_or_none job 4;
+  finished = bit (map_in job) 5;
 }
-
--- the values of fields by the numbers of their bits
-abbrev pub value_in : Fields → ℕ → ℕ
-value_in f i = get_or (f.genus ∷ f.lowest ∷ f.highest ∷ f.word ∷ f.written ∷ []) i 0
 
 -- the reader of version r knows version v, which has all bits of m
 unfoldable pub knows : ℕ → ℕ → ℕ → Bool

@@ -13,9 +13,9 @@ use Rattle.jobs.specs.Jobs.{complete, placed_by, walk_said, saved_of, saved_by, 
 
 -- the job of the walk of genus 15 on the word 0x7fff in the window from 3 to 40 with 0x0102030405060708 words written, and of a finished one
 pub known_jobs :
-    (job_of record { genus = 15; word = 0x7fff; lowest = 3; highest = 40; finished = false } 0x0102030405060708
+    (job_of record { genus = 15; word = 0x7fff; window = record { lowest = 3; highest = 40 }; finished = false } 0x0102030405060708
     ≡ 0x9f ∷ 2 ∷ 15 ∷ 3 ∷ 40 ∷ 0xff ∷ 0x7f ∷ 0 ∷ 0 ∷ 0 ∷ 0 ∷ 0 ∷ 0 ∷ 8 ∷ 7 ∷ 6 ∷ 5 ∷ 4 ∷ 3 ∷ 2 ∷ 1 ∷ [])
-    × (job_of record { genus = 15; word = 0; lowest = 3; highest = 40; finished = true } 256 ≡ 0xb7 ∷ 2 ∷ 15 ∷ 3 ∷ 40 ∷ 0 ∷ 1 ∷ 0 ∷ 0 ∷ 0 ∷ 0 ∷ 0 ∷ 0 ∷ [])
+    × (job_of record { genus = 15; word = 0; window = record { lowest = 3; highest = 40 }; finished = true } 256 ≡ 0xb7 ∷ 2 ∷ 15 ∷ 3 ∷ 40 ∷ 0 ∷ 1 ∷ 0 ∷ 0 ∷ 0 ∷ 0 ∷ 0 ∷ 0 ∷ [])
 unfolding job_of laid_before joined run field_size field_width bit bytes_of map_for of_bits digit field_for
 known_jobs = (refl, refl)
 
@@ -31,7 +31,7 @@ known_refusals = (refl, refl, refl, refl, refl, refl, refl, refl, refl, refl, re
 
 -- a finished job of version 1 without its version byte and with it: the window is from 1 to 33, and no words are written
 pub known_version_1 :
-    (read_of 1 (0x21 ∷ 4 ∷ []) ≡ given record { walk = record { genus = 4; word = 0; lowest = 1; highest = 33; finished = true }; written = 0 })
-    × (read_of 2 (0xa1 ∷ 1 ∷ 4 ∷ []) ≡ given record { walk = record { genus = 4; word = 0; lowest = 1; highest = 33; finished = true }; written = 0 })
+    (read_of 1 (0x21 ∷ 4 ∷ []) ≡ given record { walk = record { genus = 4; word = 0; window = record { lowest = 1; highest = 33 }; finished = true }; written = 0 })
+    × (read_of 2 (0xa1 ∷ 1 ∷ 4 ∷ []) ≡ given record { walk = record { genus = 4; word = 0; window = record { lowest = 1; highest = 33 }; finished = true }; written = 0 })
 unfolding read_of has_version version_in knows has_bits version_has member_of every run field_place sum_over field_size field_width bit said_by saved_by complete saved_of walk_said placed_by standing none in_order field_in value_of value_or
 known_version_1 = (refl, refl)

@@ -169,19 +169,19 @@ fields_fit w n h (suc (suc (suc (suc (suc (suc (suc zero))))))) = omega arith
 fields_fit w n h (suc (suc (suc (suc (suc (suc (suc (suc i)))))))) = omega arith
 
 -- a version 2 reader knows its bits, and they say the walk and the number
-written_says : (g x lo hi : ℕ) (f : Bool) (n : ℕ) → let w : Walk = record { genus = g; word = x; lowest = lo; highest = hi; finished = f } in Savable w n
+written_says : (g x lo hi : ℕ) (f : Bool) (n : ℕ) → let w : Walk = record { genus = g; word = x; window = record { lowest = lo; highest = hi }; finished = f } in Savable w n
     → ask (knows 2 (value_or 1 (map_for f) (field_for w n) 7) (map_for f)) (refused 17) (said_by (map_for f) (field_for w n)) ≡ given record { walk = w; written = n }
 unfolding knows has_bits version_has member_of every run map_for of_bits digit bit value_or field_for said_by saved_by complete saved_of walk_said placed_by standing none in_order
 written_says g x lo hi true n h =
     rw (le-leb g 32 h.small)
-    (ap (λ (y : ℕ). given record { walk = record { genus = g; word = y; lowest = lo; highest = hi; finished = true }; written = n }) (sym (eqb-true x 0 h.ordered)))
+    (ap (λ (y : ℕ). given record { walk = record { genus = g; word = y; window = record { lowest = lo; highest = hi }; finished = true }; written = n }) (sym (eqb-true x 0 h.ordered)))
 written_says g x lo hi false n h = rw (le-leb g 32 h.small, h.ordered)
 
 -- it reads back as the same walk and number
 job_read : (w : Walk) (n : ℕ) → Savable w n → read_of 2 (job_of w n) ≡ given record { walk = w; written = n }
 unfolding job_of
 job_read w n h =
-    fields_read 2 (map_for w.finished) (field_for w n) (λ i. fits_size (map_for w.finished) i (field_for w n i) (fields_fit w n h i)) ∙ written_says w.genus w.word w.lowest w.highest w.finished n h
+    fields_read 2 (map_for w.finished) (field_for w n) (λ i. fits_size (map_for w.finished) i (field_for w n i) (fields_fit w n h i)) ∙ written_says w.genus w.word w.window.lowest w.window.highest w.finished n h
 
 -- so that different walks or numbers have different jobs
 jobs_differ : (w v : Walk) (n k : ℕ) → Savable w n → Savable v k → job_of w n ≡ job_of v k → (w ≡ v) × (n ≡ k)
@@ -226,7 +226,7 @@ refused_untouched w n k lent e = tests_refused 3 4 6 (job_of w n) lent k (leb w.
 -- a walk that fields say fits where they do
 module _ (m : ℕ) (value : ℕ → ℕ) (lowest-fits : value 1 < 2 ^ 8) (highest-fits : value 2 < 2 ^ 8) (word_fits : value 3 < 2 ^ 64) where
   -- the word and the bounds of the walk
-  said_fits : let w : Walk = walk_said m value in (w.word < 2 ^ 64) × (w.lowest < 2 ^ 8) × (w.highest < 2 ^ 8)
+  said_fits : let w : Walk = walk_said m value in (w.word < 2 ^ 64) × (w.window.lowest < 2 ^ 8) × (w.window.highest < 2 ^ 8)
   unfolding walk_said placed_by standing
   said_fits =
       let low = value_or_lt 1 m value 1 (2 ^ 8) (omega arith) lowest-fits in

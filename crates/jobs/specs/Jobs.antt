@@ -1,20 +1,13 @@
 -- What the calls of saved jobs answer, for every walk and every list of bytes. Assumes nothing: these are definitions.
 use Rattle.std.specs.Prelude.{ℕ, Bool, true, false, cond, not, ◌&&◌, List, [], ◌∷◌, eqb, length, get_or}
 use Rattle.semigroups.specs.Words.{bit, of_bits}
-use Rattle.answers.specs.Answers.{Answer, refused, given, number_of, ask, ListAnswer, unchanged, into_lent}
+use Rattle.answers.specs.Answers.{Answer, refused, given, ask, ListAnswer, unchanged, into_lent}
 use Rattle.windows.specs.Windows.{window_list}
 use Rattle.walk.specs.declared.Walk.{Walk}
 use Rattle.walk.specs.Walks.{standing, ask_walk}
 use Rattle.job_format.specs.Format.{job_length, value_or, laid, map_in, field_in, has_version, version_in}
 use Rattle.job_format.specs.Fields.{knows}
 use Rattle.jobs.specs.declared.Saved.{Saved}
-use Rattle.jobs.specs.declared.JobAnswer.{JobAnswer}
-use Rattle.jobs.specs.declared.JobAnswer.TheVariants as J
-
--- what the cases of `JobAnswer` say
-abbrev pub read_as : JobAnswer → Answer Saved
-read_as (J.Refused r) = refused (number_of r)
-read_as (J.Given s) = given s
 
 -- ---- what the fields mean
 
@@ -27,7 +20,7 @@ complete m = bit m 0 && not (bit m 3 && bit m 5)
 unfoldable pub placed_by : ℕ → ℕ → ℕ → ℕ → ℕ → Walk
 placed_by m x g lo hi =
     cond (bit m 5) (standing g lo hi [])
-    (cond (bit m 3) record { genus = g; word = x; lowest = lo; highest = hi; finished = false }
+    (cond (bit m 3) record { genus = g; word = x; window = record { lowest = lo; highest = hi }; finished = false }
     (standing g lo hi (window_list g lo hi)))
 
 -- the walk that the fields say: an absent lowest multiplicity is 1, and an absent highest one 33
@@ -65,7 +58,7 @@ map_for finished = of_bits (true ∷ true ∷ true ∷ not finished ∷ true ∷
 
 -- the values of the fields, by rising bit: the version is 2
 unfoldable pub field_for : Walk → ℕ → ℕ → ℕ
-field_for w n i = get_or (w.genus ∷ w.lowest ∷ w.highest ∷ w.word ∷ n ∷ 0 ∷ 0 ∷ 2 ∷ []) i 0
+field_for w n i = get_or (w.genus ∷ w.window.lowest ∷ w.window.highest ∷ w.word ∷ n ∷ 0 ∷ 0 ∷ 2 ∷ []) i 0
 
 -- the job of a walk and a number written
 unfoldable pub job_of : Walk → ℕ → List ℕ

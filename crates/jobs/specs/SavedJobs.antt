@@ -14,8 +14,8 @@ use Rattle.jobs.specs.declared.Saved.{Saved}
 -- a walk and a number written fit their types: numbers of 64 bits and bytes
 pub record FitsTypes (w : Walk) (n : ℕ) : Type 0 where
   pub word : w.word < 2 ^ 64
-  pub lowest : w.lowest < 2 ^ 8
-  pub highest : w.highest < 2 ^ 8
+  pub lowest : w.window.lowest < 2 ^ 8
+  pub highest : w.window.highest < 2 ^ 8
   pub written : n < 2 ^ 64
 
 -- and the walk is not refused in a batch

@@ -9,19 +9,16 @@ ghost use Rattle.answers.specs.Answers.{answered, listed};
 ghost use Rattle.coordinates.specs.Coordinates.{kunz_coordinates, set_said, coordinates_of, word_from_coordinates_of};
 ghost use Rattle.kunz.specs.Private.{AcceptedWithMultiplicity, multiples_as_bits};
 
-use answers::{NumberAnswer, Refusal};
-use words::LookAnswer;
+use answers::Refusal;
 
 // The multiples of `m` as bits: bit j stands where m divides j.
 fn multiples(m: u64) -> u64
     requires { (0 < m) × (m ≤ 65) }
     ensures { result ≡ multiples_as_bits m }
 {
-    let mut bits: u64 = 0;
-    let mut at: u64 = 0;
-    while at < 64 {
+    let mut bits = 0;
+    for at in (0..64u64).step_by(m as usize) {
         bits |= 1 << at;
-        at += m;
     }
     bits
 }
@@ -33,34 +30,31 @@ fn write_coordinates(word: u64, m: u64, out: &mut [u8])
     ensures { out.new ≡ fronted (kunz_coordinates word) out.old }
 {
     let places = multiples(m);
-    for k in 0..m - 1 {
-        out[k as usize] = u64::count_ones(word >> k & places) as u8;
+    for (k, entry) in out[..m as usize - 1].iter_mut().enumerate() {
+        *entry = (word >> k & places).count_ones() as u8;
     }
 }
 
 // The coordinates of an accepted word of multiplicity `m` into the lent list.
-fn coordinates_of(word: u64, m: u64, out: &mut [u8]) -> NumberAnswer
+fn coordinates_of(word: u64, m: u64, out: &mut [u8]) -> Result<u64, Refusal>
     requires { AcceptedWithMultiplicity word m }
     ensures { listed result out.new ≡ coordinates_of word out.old }
 {
     let count = m - 1;
     if (out.len() as u64) < count {
-        return NumberAnswer::Refused(Refusal::ListTooShort);
+        return Err(Refusal::ListTooShort);
     }
     write_coordinates(word, m, out);
-    NumberAnswer::Given(count)
+    Ok(count)
 }
 
 // The Kunz coordinates of a word at 1 to m - 1, with m the multiplicity, as bytes into the lent list; their number m - 1 is given. Refused
 // with more than 32 gaps, a set that is not closed under addition, or a list that does not hold them all: then nothing is written.
-pub fn coordinates(word: u64, out: &mut [u8]) -> NumberAnswer
+pub fn coordinates(word: u64, out: &mut [u8]) -> Result<u64, Refusal>
     ensures { listed result out.new ≡ coordinates_of word out.old }
 {
-    let answer = words::look(word);
-    match answer {
-        LookAnswer::Refused(r) => NumberAnswer::Refused(r),
-        LookAnswer::Given(report) => coordinates_of(word, report.multiplicity, out),
-    }
+    let report = words::look(word)?;
+    coordinates_of(word, report.multiplicity, out)
 }
 
 // The sum with a byte more, or 33 where it is larger.
@@ -68,20 +62,16 @@ fn add_to_33(sum: u64, a: u8) -> u64
     requires { sum ≤ 32 }
     ensures { result ≡ min (sum + a) 33 }
 {
-    let next = sum + a as u64;
-    if 32 < next {
-        return 33;
-    }
-    next
+    (sum + a as u64).min(33)
 }
 
 // The sum of a list, or 33 where it is larger: a list of positive bytes is read to its 33rd place at most.
 fn sum_to_33(list: &[u8]) -> u64
     ensures { result ≡ min (sum_over (λ x. x) list.now) 33 }
 {
-    let mut sum: u64 = 0;
-    for i in 0..list.len() {
-        sum = add_to_33(sum, list[i]);
+    let mut sum = 0;
+    for &x in list {
+        sum = add_to_33(sum, x);
         if sum == 33 {
             return sum;
         }
@@ -108,9 +98,9 @@ fn gap_word(list: &[u8]) -> u64
 {
     let m = list.len() as u64 + 1;
     let places = multiples(m);
-    let mut word: u64 = 0;
-    for k in 0..list.len() {
-        word |= first_multiples(places, m, list[k]) << k as u64;
+    let mut word = 0;
+    for (k, &x) in list.iter().enumerate() {
+        word |= first_multiples(places, m, x) << k;
     }
     word
 }
@@ -120,28 +110,24 @@ fn accepted_of_genus(word: u64, g: u64) -> bool
     requires { g ≤ 32 }
     ensures { result ≡ (closed word && eqb (genus word) g) }
 {
-    let answer = words::look(word);
-    match answer {
-        LookAnswer::Refused(r) => false,
-        LookAnswer::Given(report) => report.genus == g,
-    }
+    words::look(word).is_ok_and(|report| report.genus == g)
 }
 
 // The word of a list of Kunz coordinates, whose length is m - 1, or what is wrong with the list: an entry 0, a sum above 32, or an
 // inequality that fails. Where the set is closed under addition, its gaps are as many as the sum and all up to 64.
-pub fn word_from_coordinates(list: &[u8]) -> NumberAnswer
+pub fn word_from_coordinates(list: &[u8]) -> Result<u64, Refusal>
     ensures { answered result ≡ word_from_coordinates_of list.now }
 {
     if !answers::all_positive(list) {
-        return NumberAnswer::Refused(Refusal::ZeroCoordinate);
+        return Err(Refusal::ZeroCoordinate);
     }
     let sum = sum_to_33(list);
     if 32 < sum {
-        return NumberAnswer::Refused(Refusal::CoordinateSumTooLarge);
+        return Err(Refusal::CoordinateSumTooLarge);
     }
     let word = gap_word(list);
     if !accepted_of_genus(word, sum) {
-        return NumberAnswer::Refused(Refusal::FailedInequality);
+        return Err(Refusal::FailedInequality);
     }
-    NumberAnswer::Given(word)
+    Ok(word)
 }

@@ -6,6 +6,7 @@ use mathlib.Core.Bool.{Bool, true, not, and-eq-true_iff}
 use mathlib.Core.List.{List, [], ◌∷◌, ◌++◌, map, append_assoc, Memᴰ}
 use native.Mathlib.Omega.{arith}
 use native.Mathlib.Numerals.{add-one}
+use Rattle.std.specs.Prelude.{Result, Ok}
 use lib.Dec.{eqb}
 use lib.ListN.{length, get_or}
 use borrow.Author.Tests.{ne_eqb, not-true}
@@ -14,8 +15,7 @@ use Rattle.semigroups.specs.GenusList.{genus_list}
 use Rattle.semigroups.proofs.Lists.{run_mem, run_last, length_run, every_mem, mem_every, every_append, joined_last, length_joined_le, map_same}
 use Rattle.semigroups.proofs.Tree.{genus_count_fits}
 use Rattle.answers.specs.Answers.{refused, given, listed}
-use Rattle.answers.specs.declared.NumberAnswer.{NumberAnswer}
-use Rattle.answers.specs.declared.NumberAnswer.TheVariants as N
+use Rattle.answers.specs.declared.Refusal.{Refusal}
 use Rattle.answers.proofs.Answers.{lent_given}
 use Rattle.counts.specs.Counts.{count_of}
 use Rattle.counts.proofs.Counts.{count_all}
@@ -103,6 +103,6 @@ unfolding headers_to
 header_lines_le = omega (arith, length_run 0 21, length_joined_le header_of 36 (run 0 21) (λ g m. header_of_le g (omega (arith, run_mem 0 21 m))))
 
 -- so the number of bytes that are given is at most that
-pub headers_given : (lent : List ℕ) {r : NumberAnswer} {after : List ℕ} (n : ℕ) → listed r after ≡ headers_of lent → r ≡ N.Given n → n ≤ 756
+pub headers_given : (lent : List ℕ) {r : Result ℕ Refusal} {after : List ℕ} (n : ℕ) → listed r after ≡ headers_of lent → r ≡ Ok n → n ≤ 756
 unfolding headers_of
 headers_given lent n e g = omega (arith, lent_given header_lines lent n e g, header_lines_le)

@@ -5,6 +5,7 @@ use mathlib.Core.Bool.{Bool, true, false}
 use mathlib.Core.List.{List, [], ◌∷◌, ◌++◌, Memᴰ}
 use native.Mathlib.Omega.{arith}
 use lib.Dec.{leb}
+use Rattle.std.specs.Prelude.{Result, Ok}
 use lib.ListN.{length, length-append}
 use Rattle.semigroups.specs.Lists.{joined, fronted}
 use Rattle.semigroups.specs.Words.{reported_conductor}
@@ -16,8 +17,6 @@ use Rattle.semigroups.proofs.Operations.{conductor_le, multiplicity_le}
 use Rattle.semigroups.proofs.Tree.{genus_count_fits}
 use Rattle.answers.specs.Answers.{Answer, refused, given, number_of, answered, ask}
 use Rattle.answers.specs.declared.Refusal.{Refusal}
-use Rattle.answers.specs.declared.NumberAnswer.{NumberAnswer}
-use Rattle.answers.specs.declared.NumberAnswer.TheVariants as N
 use Rattle.answers.proofs.Answers.{number_range}
 use Rattle.requests.specs.Digits.{line_feed}
 use Rattle.listing.specs.Decimal.{decimal}
@@ -88,8 +87,8 @@ refusal_line_le n h =
     omega (arith, field_le_3 n line_feed (omega arith))
 
 -- the line that is given has at most 11 bytes
-pub refusal_given : (r : Refusal) (lent : List ℕ) (a : NumberAnswer) (l : List ℕ) (m : ℕ) → (answered a, l) ≡ refusal_line_of (number_of r) lent
-    → a ≡ N.Given m → m ≤ 11
+pub refusal_given : (r : Refusal) (lent : List ℕ) (a : Result ℕ Refusal) (l : List ℕ) (m : ℕ) → (answered a, l) ≡ refusal_line_of (number_of r) lent
+    → a ≡ Ok m → m ≤ 11
 unfolding refusal_line_of
 refusal_given r lent a l m e g =
     by_question (leb 11 (length lent)) (ap (λ (x : Answer ℕ × List ℕ). x.0) (sym e) ∙ ap answered g)

@@ -13,23 +13,24 @@ use Rattle.answers.specs.Answers.{refused, given, ask}
 use Rattle.answers.proofs.Answers.{two_given}
 use Rattle.counts.proofs.Counts.{count_all}
 use Rattle.requests.specs.Digits.{value}
-use Rattle.requests.specs.Request.{headers_alone, listing_for, all_but_last, well_formed, request_of}
+use Rattle.requests.specs.Request.{all_but_last, well_formed, request_of}
+use Rattle.requests.specs.declared.Request.TheVariants as R
 use Rattle.listing.specs.Text.{header_of, answer_text, text_of}
 use Rattle.listing.specs.NoInput.{NoInput}
 use Rattle.listing.proofs.HeaderLines.{first_line_header, header_lines_are}
 
 -- what an input with bytes asks for is never header lines alone
-not_headers : (formed small : Bool) (g : ℕ) → ask formed (refused 10) (ask small (refused 3) (given (listing_for g))) ≡ given headers_alone → ⊥
-not_headers formed small g e = let same = (two_given 10 3 (listing_for g) headers_alone formed small e).2 in let z : ◌≡◌ {A = ℕ} 0 1 = cc in omega arith
+not_headers : (formed small : Bool) (g : ℕ) → ask formed (refused 10) (ask small (refused 3) (given (R.Listing g))) ≡ given R.Headers → ⊥
+not_headers formed small g e = let same = (two_given 10 3 (R.Listing g) R.Headers formed small e).2 in let z : ◌≡◌ {A = ℕ} 0 1 = cc in omega arith
 
 -- and it is refused 10 just by question 10
-malformed : (formed small : Bool) (g : ℕ) → ask formed (refused 10) (ask small (refused 3) (given (listing_for g))) ≡ refused 10 → formed ≡ false
+malformed : (formed small : Bool) (g : ℕ) → ask formed (refused 10) (ask small (refused 3) (given (R.Listing g))) ≡ refused 10 → formed ≡ false
 malformed true true g e = let z : ◌≡◌ {A = ℕ} 0 1 = cc in absurd (omega arith)
 malformed true false g e = let z : ◌≡◌ {A = ℕ} 3 10 = cc in absurd (omega arith)
 malformed false small g e = refl
 
 -- just no bytes ask for header lines alone
-asked_iff : (input : List ℕ) → (request_of input ≡ given headers_alone) ↔ (input ≡ [])
+asked_iff : (input : List ℕ) → (request_of input ≡ given R.Headers) ↔ (input ≡ [])
 unfolding none request_of
 asked_iff [] = (λ e. refl, λ e. refl)
 asked_iff (b ∷ l) = (λ e. absurd (not_headers (well_formed (b ∷ l)) (leb (value (all_but_last (b ∷ l))) 32) (value (all_but_last (b ∷ l))) e), λ e. ap request_of e)

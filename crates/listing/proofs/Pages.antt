@@ -5,6 +5,7 @@ use mathlib.Core.Bool.{Bool, true, false, cond}
 use mathlib.Core.List.{List, [], ◌∷◌, ◌++◌, append_assoc}
 use native.Mathlib.Omega.{arith}
 use native.Mathlib.Decide.{dec_le}
+use Rattle.std.specs.Prelude.{Ok}
 use lib.Dec.{leb}
 use lib.ListN.{length, take, drop, length-append, length-drop, take-append-drop}
 use lib.Seq.{take_at, length-take-le}
@@ -15,13 +16,10 @@ use Rattle.semigroups.proofs.Lists.{end_drop, joined_append}
 use Rattle.answers.specs.Answers.{Answer, refused, given, ask}
 use Rattle.walk.specs.declared.Walk.{Walk}
 use Rattle.walk.specs.declared.Written.{Written}
-use Rattle.walk.specs.declared.BatchAnswer.{BatchAnswer}
-use Rattle.walk.specs.declared.BatchAnswer.TheVariants as B
 use Rattle.walk.specs.Walks.{rest, standing, in_order, fresh_of, unmoved, moved, ended, Ending, batch_of}
 use Rattle.walk.proofs.Walks.{rest_end, rest_standing, batch_moves, fresh_answers, fresh_in_refused}
 use Rattle.listing.specs.declared.Listing.{Listing}
 use Rattle.listing.specs.declared.Page.{Page}
-use Rattle.listing.specs.declared.PageAnswer.TheVariants as P
 use Rattle.listing.specs.Text.{line_of}
 use Rattle.listing.specs.Pages.{fresh_listing_of, heading_of, Turn, turned, unturned, lines_within, page_written, page_of}
 use Rattle.listing.proofs.Lines.{header_of_le}
@@ -129,23 +127,22 @@ pub record Batched (l : Listing) (lent words : List ℕ) (r : Written) (after : 
   pub order : in_order l.walk ≡ true
   pub count : r.count ≡ min (lines_within l.headed (length lent)) (length (rest l.walk))
   pub finished : r.finished ≡ none (drop r.count (rest l.walk))
-  pub walk : after ≡ standing l.walk.genus l.walk.lowest l.walk.highest (drop r.count (rest l.walk))
+  pub walk : after ≡ standing l.walk.genus l.walk.window.lowest l.walk.window.highest (drop r.count (rest l.walk))
   pub within : r.count ≤ length words
   pub next : take r.count words ≡ take r.count (rest l.walk)
 
 -- the batch was given the first k of the words, as many as lines fit
 pub batched : (l : Listing) (lent words : List ℕ) (k : ℕ) → length words ≡ 4096 → 64 ≤ length lent
     → k ≡ cond (leb 64 (length lent)) (lines_within l.headed (length lent)) 0
-    → (a : BatchAnswer) (after : Walk) (list : List ℕ) (r : Written) → a ≡ B.Given r → ended a after list ≡ batch_of l.walk (take k words)
+    → (after : Walk) (list : List ℕ) (r : Written) → ended (Ok r) after list ≡ batch_of l.walk (take k words)
     → Batched l lent (list ++ drop k words) r after
 unfolding lines_within
-batched l lent words k full room most a after list r answers e₀ =
-    let e : ended (B.Given r) after list ≡ batch_of l.walk (take k words) = ap (λ (b : BatchAnswer). ended b after list) (sym answers) ∙ e₀ in
+batched l lent words k full room most after list r e =
     let (small, order) = batch_given l.walk (take k words) r (ap (λ (d : Ending). d.answer) (sym e)) in
     let R : List ℕ = rest l.walk in
     let fit : k ≡ lines_within l.headed (length lent) = most ∙ rw (le-leb 64 (length lent) room) in
     let places : length (take k words) ≡ k = length-take-le k words (omega arith) in
-    let ends : ended (B.Given r) after list ≡ moved l.walk R (take k words) = e ∙ batch_moves l.walk (take k words) small order in
+    let ends : ended (Ok r) after list ≡ moved l.walk R (take k words) = e ∙ batch_moves l.walk (take k words) small order in
     let n : ℕ = min (length (take k words)) (length R) in
     let told : r ≡ record { count = n; finished = none (drop n R) } = let same = ap (λ (d : Ending). d.answer) ends in cc in
     let counted : n ≡ r.count = ap (λ (t : Written). t.count) (sym told) in
@@ -160,7 +157,7 @@ batched l lent words k full room most a after list r answers e₀ =
       order = order;
       count = sym counted ∙ ap (λ (m : ℕ). min m (length R)) (places ∙ fit);
       finished = ap (λ (t : Written). t.finished) told ∙ ap (λ (m : ℕ). none (drop m R)) counted;
-      walk = ap (λ (d : Ending). d.walk) ends ∙ ap (λ (m : ℕ). standing l.walk.genus l.walk.lowest l.walk.highest (drop m R)) counted;
+      walk = ap (λ (d : Ending). d.walk) ends ∙ ap (λ (m : ℕ). standing l.walk.genus l.walk.window.lowest l.walk.window.highest (drop m R)) counted;
       within = subst (λ (m : ℕ). m ≤ length (list ++ drop k words)) counted all;
       next = subst (λ (m : ℕ). take m (list ++ drop k words) ≡ take m R) counted nexts;
     }
@@ -177,13 +174,13 @@ module _ (l : Listing) (lent words : List ℕ) (room : 64 ≤ length lent) (r : 
 
   -- and make the page
   pub page_by : {list : List ℕ} {end : ℕ} → (end ≡ length page_text) × (list ≡ fronted page_text lent)
-      → turned (P.Given record { bytes = end; finished = r.finished }) record { headed = true; walk = after } list ≡ page_of l lent
+      → turned (Ok record { bytes = end; finished = r.finished }) record { headed = true; walk = after } list ≡ page_of l lent
   page_by (ends, lists) =
       let g : ℕ = l.walk.genus in
       let R : List ℕ = rest l.walk in
       let made : ℕ → List ℕ → Turn = λ n text. record {
         answer = given record { bytes = length text; finished = none (drop n R) };
-        listing = record { headed = true; walk = standing g l.walk.lowest l.walk.highest (drop n R) };
+        listing = record { headed = true; walk = standing g l.walk.window.lowest l.walk.window.highest (drop n R) };
         list = fronted text lent;
       } in
       let texts : page_text ≡ heading_of l.headed g ++ joined line_of (take (min (lines_within l.headed (length lent)) (length R)) R) =
@@ -231,6 +228,6 @@ module _ (l : Listing) (lent : List ℕ) (p : Page) {t : Turn} (e : t ≡ page_o
   page_falls room more =
       let (k, split) = rest_end l.walk in
       let left : rest t.listing.walk ≡ drop n R =
-      ap (λ (u : Turn). rest u.listing.walk) ends ∙ rest_standing l.walk.genus l.walk.lowest l.walk.highest (k ++ take n R) (drop n R) (end_drop n k R split) in
+      ap (λ (u : Turn). rest u.listing.walk) ends ∙ rest_standing l.walk.genus l.walk.window.lowest l.walk.window.highest (k ++ take n R) (drop n R) (end_drop n k R split) in
       let some : 0 < length (drop n R) = none_left (drop n R) (ap (λ (q : Page). q.finished) (sym tells) ∙ more) in
       omega (arith, ap length left, length-drop n R, lines_some l.headed (length lent) room)

@@ -16,7 +16,8 @@ use Rattle.semigroups.proofs.First.{genus_list_first}
 use Rattle.answers.specs.Answers.{refused, given, ask}
 use Rattle.answers.proofs.Answers.{lent_enough}
 use Rattle.requests.specs.Digits.{value}
-use Rattle.requests.specs.Request.{listing_for, all_but_last, well_formed, request_of}
+use Rattle.requests.specs.Request.{all_but_last, well_formed, request_of}
+use Rattle.requests.specs.declared.Request.TheVariants as R
 use Rattle.listing.specs.declared.Listing.{Listing}
 use Rattle.listing.specs.declared.Page.{Page}
 use Rattle.listing.specs.Text.{listing_of, header_lines, headers_of, refusal_line, refusal_line_of, answer_text, text_of}
@@ -57,7 +58,7 @@ by_last (x ∷ []) h f = f [] x refl
 by_last (y ∷ z ∷ l) h f = by_last (z ∷ l) (omega arith) (λ k x e. f (y ∷ k) x (ap (λ (t : List _). y ∷ t) e))
 
 -- an input that asks for a genus
-module _ (input : List ℕ) (g : ℕ) (small : g ≤ 32) (asked : request_of input ≡ given (listing_for g)) where
+module _ (input : List ℕ) (g : ℕ) (small : g ≤ 32) (asked : request_of input ≡ given (R.Listing g)) where
   -- the text is the listing of the genus
   text : text_of input ≡ listing_of g
   unfolding answer_text text_of
@@ -123,7 +124,7 @@ program_texts (b ∷ l) = by_questions (well_formed input) (leb genus 32) refl r
     genus : ℕ
     genus = value (all_but_last input)
 
-    by_questions : (formed small : Bool) → request_of input ≡ ask formed (refused 10) (ask small (refused 3) (given (listing_for genus))) → leb genus 32 ≡ small
+    by_questions : (formed small : Bool) → request_of input ≡ ask formed (refused 10) (ask small (refused 3) (given (R.Listing genus))) → leb genus 32 ≡ small
         → RefusalText input ⊎ (HeadersText input ⊎ PagesText input)
     by_questions false small e s = inl (refusal_text input 10 (omega arith) e)
     by_questions true false e s = inl (refusal_text input 3 (omega arith) e)

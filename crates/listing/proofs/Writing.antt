@@ -1,10 +1,11 @@
 -- Text written behind text is written as one, and text from the start of a list stands at its front. Assumes nothing.
 use Prim.Native.Nat.{ℕ, ◌+◌, ◌≤◌, ◌<◌}
 use mathlib.Core.Path.{◌≡◌, refl, sym, ◌∙◌, ap, ap₂, subst}
-use mathlib.Core.List.{List, [], ◌∷◌, ◌++◌}
+use mathlib.Core.List.{List, [], ◌∷◌, ◌++◌, append_assoc}
 use native.Mathlib.Omega.{arith}
-use lib.ListN.{length, drop, set, length-append}
-use lib.Seq.{sets, sets-eq, length-sets}
+use borrow.Rule.Slice.PartMut.{put_mid}
+use lib.ListN.{length, take, drop, set, length-append}
+use lib.Seq.{sets, sets-eq, length-sets, drop-drop}
 use Rattle.semigroups.specs.Lists.{fronted}
 use Rattle.semigroups.proofs.Lists.{sets_append}
 use Rattle.listing.specs.Writing.{Puts}
@@ -16,6 +17,16 @@ puts_nothing l at h = record { list = refl; next = omega arith; within = omega a
 -- a byte is stored
 pub puts_byte : (l : List ℕ) (at b : ℕ) → at < length l → Puts l at (b ∷ []) (set l at b) (at + 1)
 puts_byte l at b h = record { list = refl; next = refl; within = omega arith }
+
+-- a part is overwritten by bytes
+pub puts_part : (l : List ℕ) (at k : ℕ) (s t : List ℕ) → k ≡ length t → s ≡ t → at + length t ≤ length l → Puts l at t (put_mid at k l s) (at + length t)
+puts_part l at k s t size same within = record {
+  list =
+      ap₂ (λ (n : ℕ) (m : List ℕ). put_mid at n l m) size same ∙ ap (λ (r : List ℕ). take at l ++ (t ++ r)) (drop-drop (length t) at l)
+      ∙ sym (append_assoc (take at l) t (drop (at + length t) l)) ∙ sym (sets-eq t l at within);
+  next = refl;
+  within = within;
+}
 
 -- an equal text is written
 pub puts_as : {l m s t : List ℕ} {at end : ℕ} → s ≡ t → Puts l at s m end → Puts l at t m end

@@ -1,27 +1,15 @@
 -- A listing under way and its pages: what each call answers, where the listing stands after it and what the lent list then holds, for all
 -- arguments; and what a row of pages owes. Assumes nothing: these are definitions.
-use Rattle.std.specs.Prelude.{ℕ, ◌-◌, ◌/◌, ◌≤◌, min, ◌≡◌, ◌↔◌, Bool, true, false, cond, leb, length, take, drop}
+use Rattle.std.specs.Prelude.{ℕ, ◌-◌, ◌/◌, ◌≤◌, min, ◌≡◌, ◌↔◌, Bool, true, false, cond, leb, length, take, drop, Result}
 use mathlib.Core.List.{List, [], ◌∷◌, ◌++◌, map, Memᴰ}
 use Rattle.semigroups.specs.Lists.{none, joined, fronted}
 use Rattle.semigroups.specs.GenusList.{genus_list}
-use Rattle.answers.specs.Answers.{Answer, refused, given, number_of, ask}
+use Rattle.answers.specs.Answers.{Answer, refused, given, answered, ask}
+use Rattle.answers.specs.declared.Refusal.{Refusal}
 use Rattle.walk.specs.Walks.{rest, standing, in_order}
 use Rattle.listing.specs.Text.{header_of, line_of, listing_of}
 use Rattle.listing.specs.declared.Listing.{Listing}
-use Rattle.listing.specs.declared.ListingAnswer.{ListingAnswer}
-use Rattle.listing.specs.declared.ListingAnswer.TheVariants as L
 use Rattle.listing.specs.declared.Page.{Page}
-use Rattle.listing.specs.declared.PageAnswer.{PageAnswer}
-use Rattle.listing.specs.declared.PageAnswer.TheVariants as P
-
--- what the cases of the answers say
-abbrev pub opened : ListingAnswer → Answer Listing
-opened (L.Refused r) = refused (number_of r)
-opened (L.Given l) = given l
-
-abbrev pub page_answered : PageAnswer → Answer Page
-page_answered (P.Refused r) = refused (number_of r)
-page_answered (P.Given p) = given p
 
 -- ---- a listing under way
 
@@ -46,8 +34,8 @@ pub record Turn : Type 0 where
   pub list : List ℕ
 
 -- the ending of a page that returned r and left this listing and this list
-abbrev pub turned : PageAnswer → Listing → List ℕ → Turn
-turned r l list = record { answer = page_answered r; listing = l; list = list }
+abbrev pub turned : Result Page Refusal → Listing → List ℕ → Turn
+turned r l list = record { answer = answered r; listing = l; list = list }
 
 -- refused: the listing and the list are as they were
 abbrev pub unturned : ℕ → Listing → List ℕ → Turn
@@ -65,7 +53,7 @@ page_written l r lent =
     let text : List ℕ = heading_of l.headed g ++ joined line_of (take n r) in
     record {
       answer = given record { bytes = length text; finished = none (drop n r) };
-      listing = record { headed = true; walk = standing g l.walk.lowest l.walk.highest (drop n r) };
+      listing = record { headed = true; walk = standing g l.walk.window.lowest l.walk.window.highest (drop n r) };
       list = fronted text lent;
     }
 

@@ -5,7 +5,8 @@ use mathlib.Core.List.{List, [], ◌∷◌, ◌++◌, Memᴰ}
 use Rattle.semigroups.specs.Lists.{joined, fronted}
 use Rattle.semigroups.specs.GenusList.{genus_list}
 use Rattle.answers.specs.Answers.{refused, given, filled}
-use Rattle.requests.specs.Request.{headers_alone, listing_for, request_of}
+use Rattle.requests.specs.Request.{request_of}
+use Rattle.requests.specs.declared.Request.TheVariants as R
 use Rattle.listing.specs.Text.{listing_of, header_lines, headers_of, refusal_line, refusal_line_of, text_of}
 use Rattle.listing.specs.Pages.{fresh_listing_of, PageCall, pages, wrote_bytes}
 use Rattle.listing.specs.declared.Listing.{Listing}
@@ -22,7 +23,7 @@ pub record RefusalText (input : List ℕ) : Type 0 where
 -- an input that asks for header lines alone, which is that of no bytes: the call for them puts them at the front of any list of 756 places
 pub record HeadersText (input : List ℕ) : Type 0 where
   pub empty : input ≡ []
-  pub asked : request_of input ≡ given headers_alone
+  pub asked : request_of input ≡ given R.Headers
   pub text : text_of input ≡ header_lines
   pub fits : length (text_of input) ≤ 756
   pub written : (lent : List ℕ) → 756 ≤ length lent → headers_of lent ≡ filled (text_of input) lent
@@ -31,7 +32,7 @@ pub record HeadersText (input : List ℕ) : Type 0 where
 pub record PagesText (input : List ℕ) : Type 0 where
   pub genus : ℕ
   pub small : genus ≤ 32
-  pub asked : request_of input ≡ given (listing_for genus)
+  pub asked : request_of input ≡ given (R.Listing genus)
   pub text : text_of input ≡ listing_of genus
   pub fresh : Listing
   pub fresh_answers : fresh_listing_of genus ≡ given fresh

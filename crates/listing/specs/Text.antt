@@ -7,7 +7,9 @@ use Rattle.semigroups.specs.Elements.{multiplicity}
 use Rattle.semigroups.specs.GenusList.{genus_list}
 use Rattle.answers.specs.Answers.{Answer, refused, given, ask, ListAnswer, into_lent}
 use Rattle.requests.specs.Digits.{line_feed}
-use Rattle.requests.specs.Request.{Request, headers_alone, listing_for, request_of}
+use Rattle.requests.specs.Request.{request_of}
+use Rattle.requests.specs.declared.Request.{Request}
+use Rattle.requests.specs.declared.Request.TheVariants as R
 use Rattle.listing.specs.Decimal.{decimal}
 
 -- the byte between fields
@@ -69,8 +71,8 @@ refusal_line_of n lent = ask (leb 11 (length lent)) (refused 6, lent) (given (le
 -- the line of a refusal, the header lines of genus 0 to 20, or the listing of the genus
 unfoldable pub answer_text : Answer Request → List ℕ
 answer_text (refused n) = refusal_line n
-answer_text (given headers_alone) = header_lines
-answer_text (given (listing_for g)) = listing_of g
+answer_text (given R.Headers) = header_lines
+answer_text (given (R.Listing g)) = listing_of g
 
 -- what the program writes for an input
 unfoldable pub text_of : List ℕ → List ℕ

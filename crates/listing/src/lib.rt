@@ -7,10 +7,10 @@ ghost use Rattle.answers.specs.Answers.{number_of, answered, listed};
 ghost use Rattle.listing.specs.Decimal.{decimal};
 ghost use Rattle.listing.specs.Text.{field, header, header_of, header_lines, headers_of, line_of, refusal_line_of};
 ghost use Rattle.listing.specs.Writing.{pair_of, Puts};
-ghost use Rattle.listing.specs.Pages.{opened, fresh_listing_of, heading_of, lines_within, turned, page_of};
+ghost use Rattle.listing.specs.Pages.{fresh_listing_of, heading_of, lines_within, turned, page_of};
 
-use answers::{NumberAnswer, Refusal};
-use walk::{BatchAnswer, Walk, WalkAnswer};
+use answers::Refusal;
+use walk::Walk;
 
 // A listing under way: whether its header was written, and the walk over the semigroups whose lines were not.
 #[derive(Clone, Copy)]
@@ -19,32 +19,11 @@ pub struct Listing {
     pub walk: Walk,
 }
 
-// The answer of the call that begins a listing.
-#[derive(Clone, Copy)]
-pub enum ListingAnswer {
-    Refused(Refusal),
-    Given(Listing),
-}
-
 // What is told of a page: how many bytes it has, and whether it is the last.
 #[derive(Clone, Copy)]
 pub struct Page {
     pub bytes: usize,
     pub finished: bool,
-}
-
-// The answer of a page.
-#[derive(Clone, Copy)]
-pub enum PageAnswer {
-    Refused(Refusal),
-    Given(Page),
-}
-
-// What a page gives back: the listing afterwards and the answer.
-#[derive(Clone, Copy)]
-pub struct Paged {
-    pub listing: Listing,
-    pub answer: PageAnswer,
 }
 
 // Writes the two digits of a number below 100, and gives the place after them.
@@ -88,12 +67,9 @@ fn put_bytes(out: &mut [u8], at: usize, bytes: &[u8]) -> usize
     requires { at + length bytes.now ≤ length out.old }
     ensures { Puts out.old at bytes.now out.new result }
 {
-    let mut i = 0;
-    while i < bytes.len() {
-        out[at + i] = bytes[i];
-        i += 1;
-    }
-    at + i
+    let end = at + bytes.len();
+    out[at..end].copy_from_slice(bytes);
+    end
 }
 
 // Writes the line of a semigroup.
@@ -112,40 +88,34 @@ fn put_lines(out: &mut [u8], at: usize, words: &[u64]) -> usize
     requires { at + length words.now * 27 ≤ length out.old }
     ensures { Puts out.old at (joined line_of words.now) out.new result }
 {
-    let n = words.len();
     let mut next = at;
-    let mut i = 0;
-    while i < n {
-        next = put_line(out, next, words[i]);
-        i += 1;
+    for &word in words {
+        next = put_line(out, next, word);
     }
     next
 }
 
 // Writes the line of a refusal to the front of a list of at least 11 places, and gives its length.
-pub fn refusal_line(refusal: Refusal, out: &mut [u8]) -> NumberAnswer
+pub fn refusal_line(refusal: Refusal, out: &mut [u8]) -> Result<u64, Refusal>
     ensures { (answered result, out.new) ≡ refusal_line_of (number_of refusal) out.old }
 {
     if out.len() < 11 {
-        return NumberAnswer::Refused(Refusal::ListTooShort);
+        return Err(Refusal::ListTooShort);
     }
     let next = put_bytes(out, 0, b"refused ");
     let end = put_field(out, next, refusal.number(), b'\n');
-    NumberAnswer::Given(end as u64)
+    Ok(end as u64)
 }
 
 // A listing of a genus, of which nothing was written: refused above genus 32.
-pub fn fresh(genus: u64) -> ListingAnswer
-    ensures { opened result ≡ fresh_listing_of genus }
+pub fn fresh(genus: u64) -> Result<Listing, Refusal>
+    ensures { answered result ≡ fresh_listing_of genus }
 {
-    let answer = walk::fresh(genus);
-    match answer {
-        WalkAnswer::Refused(refusal) => ListingAnswer::Refused(refusal),
-        WalkAnswer::Given(walk) => ListingAnswer::Given(Listing {
-            headed: false,
-            walk,
-        }),
-    }
+    let walk = walk::fresh(genus)?;
+    Ok(Listing {
+        headed: false,
+        walk,
+    })
 }
 
 // Writes a header.
@@ -159,15 +129,14 @@ fn put_header(out: &mut [u8], at: usize, genus: u64, count: u64) -> usize
     put_field(out, third, count, b'\n')
 }
 
-// Writes the header of a genus.
+// Writes the header of a genus: up to genus 32 the count is given.
 fn put_header_of(out: &mut [u8], at: usize, genus: u64) -> usize
     requires { (genus ≤ 32) × (at + 36 ≤ length out.old) }
     ensures { Puts out.old at (header_of genus) out.new result }
 {
-    let answer = counts::count(0, genus);
-    match answer {
-        NumberAnswer::Refused(_) => at,
-        NumberAnswer::Given(count) => put_header(out, at, genus, count),
+    match counts::count(0, genus) {
+        Ok(count) => put_header(out, at, genus, count),
+        Err(_) => at,
     }
 }
 
@@ -188,26 +157,24 @@ fn put_headers(out: &mut [u8]) -> usize
     ensures { Puts out.old 0 header_lines out.new result }
 {
     let mut next = 0;
-    let mut genus = 0;
-    while genus < 21 {
+    for genus in 0..21 {
         next = put_header_of(out, next, genus);
-        genus += 1;
     }
     next
 }
 
 // Writes the header lines of genus 0 to 20 to the front of a list, and gives their length. Refused in a list that does not hold all of them:
 // then nothing is written, so that they are made in a list of their own first.
-pub fn headers(out: &mut [u8]) -> NumberAnswer
+pub fn headers(out: &mut [u8]) -> Result<u64, Refusal>
     ensures { listed result out.new ≡ headers_of out.old }
 {
-    let mut lines = [0u8; 1024];
+    let mut lines = [0; 1024];
     let end = put_headers(&mut lines);
     if out.len() < end {
-        return NumberAnswer::Refused(Refusal::ListTooShort);
+        return Err(Refusal::ListTooShort);
     }
     put_bytes(out, 0, &lines[..end]);
-    NumberAnswer::Given(end as u64)
+    Ok(end as u64)
 }
 
 // Writes the text of a page to the front of a list: the header, unless it was written, and the lines of the words.
@@ -224,11 +191,7 @@ fn put_page(out: &mut [u8], headed: bool, genus: u64, words: &[u64]) -> usize
 fn lines_in(room: usize) -> usize
     ensures { result ≡ min 4096 (room / 27) }
 {
-    let lines = room / 27;
-    if 4096 < lines {
-        return 4096;
-    }
-    lines
+    (room / 27).min(4096)
 }
 
 // How many lines a page has in a list of that many places: none in fewer than 64.
@@ -244,52 +207,32 @@ fn lines_within(headed: bool, places: usize) -> usize
     lines_in(places - 36)
 }
 
-// The next page, with a list of 4,096 words for those whose lines it writes.
-fn page_by(listing: Listing, words: &mut [u64], out: &mut [u8]) -> Paged
+// The next page, with a list of 4,096 words for those whose lines it writes. The walk is moved in a copy, so that a list too short leaves the
+// listing as it was.
+fn page_by(listing: &mut Listing, words: &mut [u64], out: &mut [u8]) -> Result<Page, Refusal>
     requires { length words.old ≡ 4096 }
-    ensures { turned result.answer result.listing out.new ≡ page_of listing out.old }
+    ensures { turned result listing.new out.new ≡ page_of listing.old out.old }
 {
-    let walk = listing.walk;
+    let Listing { headed, mut walk } = *listing;
     let genus = walk.genus;
-    let headed = listing.headed;
-    let places = out.len();
-    let most = lines_within(headed, places);
-    let moved = walk::step(walk, &mut words[..most]);
-    let answer = moved.answer;
-    match answer {
-        BatchAnswer::Refused(refusal) => Paged {
-            listing,
-            answer: PageAnswer::Refused(refusal),
-        },
-        BatchAnswer::Given(written) => {
-            if places < 64 {
-                return Paged {
-                    listing,
-                    answer: PageAnswer::Refused(Refusal::ListTooShort),
-                };
-            }
-            let count = written.count;
-            let end = put_page(out, headed, genus, &words[..count]);
-            let after = moved.walk;
-            Paged {
-                listing: Listing {
-                    headed: true,
-                    walk: after,
-                },
-                answer: PageAnswer::Given(Page {
-                    bytes: end,
-                    finished: written.finished,
-                }),
-            }
-        }
+    let most = lines_within(headed, out.len());
+    let written = walk::batch(&mut walk, &mut words[..most])?;
+    if out.len() < 64 {
+        return Err(Refusal::ListTooShort);
     }
+    let bytes = put_page(out, headed, genus, &words[..written.count]);
+    *listing = Listing { headed: true, walk };
+    Ok(Page {
+        bytes,
+        finished: written.finished,
+    })
 }
 
 // Writes the next page of a listing to the front of a list: the header, if it was not written, and as many lines as surely fit. Refused
 // where the walk is, and in a list of fewer than 64 places: then nothing is written, and the listing is as it was.
-pub fn next_page(listing: Listing, out: &mut [u8]) -> Paged
-    ensures { turned result.answer result.listing out.new ≡ page_of listing out.old }
+pub fn next_page(listing: &mut Listing, out: &mut [u8]) -> Result<Page, Refusal>
+    ensures { turned result listing.new out.new ≡ page_of listing.old out.old }
 {
-    let mut words = [0u64; 4096];
+    let mut words = [0; 4096];
     page_by(listing, &mut words, out)
 }

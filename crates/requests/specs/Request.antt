@@ -1,21 +1,10 @@
 -- What the listing program is asked by its input. Assumes nothing: these are definitions.
 use Rattle.std.specs.Prelude.{ℕ, ◌-◌, Bool, cond, ◌&&◌, List, leb, eqb, length, take}
 use Rattle.semigroups.specs.Lists.{none, every, last_or}
-use Rattle.answers.specs.Answers.{Answer, refused, given, number_of, ask}
+use Rattle.answers.specs.Answers.{Answer, refused, given, ask}
 use Rattle.requests.specs.Digits.{line_feed, is_digit, value}
-use Rattle.requests.specs.declared.RequestAnswer.{RequestAnswer}
-use Rattle.requests.specs.declared.RequestAnswer.TheVariants as R
-
--- what is asked for: header lines alone, or the listing of a genus
-pub data Request : Type 0 where
-  headers_alone : Request
-  listing_for : ℕ → Request
-
--- what the cases of `RequestAnswer` say
-abbrev pub request_answered : RequestAnswer → Answer Request
-request_answered (R.Refused r) = refused (number_of r)
-request_answered R.Headers = given headers_alone
-request_answered (R.Listing g) = given (listing_for g)
+use Rattle.requests.specs.declared.Request.{Request}
+use Rattle.requests.specs.declared.Request.TheVariants.{Headers, Listing}
 
 -- the input without its last byte
 abbrev pub all_but_last : List ℕ → List ℕ
@@ -29,8 +18,8 @@ well_formed input =
 
 -- a genus is asked for: question 3
 abbrev pub genus_asked : ℕ → Answer Request
-genus_asked g = ask (leb g 32) (refused 3) (given (listing_for g))
+genus_asked g = ask (leb g 32) (refused 3) (given (Listing g))
 
 -- what the input asks for: no bytes ask for header lines alone; of any other input, questions 10 and 3
 unfoldable pub request_of : List ℕ → Answer Request
-request_of input = cond (none input) (given headers_alone) (ask (well_formed input) (refused 10) (genus_asked (value (all_but_last input))))
+request_of input = cond (none input) (given Headers) (ask (well_formed input) (refused 10) (genus_asked (value (all_but_last input))))

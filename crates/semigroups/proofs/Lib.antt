@@ -1,5 +1,6 @@
 pub mod Booleans
 pub mod Lists
+pub mod Library
 pub mod Membership
 pub mod Kept
 pub mod Bits

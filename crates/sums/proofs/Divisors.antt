@@ -1,10 +1,12 @@
 -- The greatest common divisor divides each, and each common divisor divides it. Assumes nothing.
 use Prim.Native.Nat.{ℕ, zero, suc, ◌%◌, ◌≤◌, ◌<◌, ◌∣◌}
-use mathlib.Core.Path.{◌≡◌, refl}
+use mathlib.Core.Path.{◌≡◌, refl, ap, ◌∙◌}
 use mathlib.Core.List.Memᴰ
-use mathlib.Core.List.{List, [], ◌∷◌, Memᴰ}
+use mathlib.Core.List.{List, [], ◌∷◌, Memᴰ, reverse, reverse-cons}
 use native.Mathlib.Omega.{arith}
 use native.Mathlib.Nat.{dvd_refl, dvd-zero, dvd_trans, dvd-mod_iff, dvd_antisymm, mod-lt, le_refl}
+use Rattle.std.specs.List.{fold}
+use Rattle.std.proofs.lemmas.List.Sums.{fold-append}
 use Rattle.sums.specs.Divisors.{euclid, gcd, gcd_of}
 
 -- g is a greatest common divisor of a and b
@@ -58,3 +60,10 @@ pub gcd_greatest : (A : List ℕ) (d : ℕ) → ((a : ℕ) → Memᴰ a A → d 
 unfolding gcd_of
 gcd_greatest [] d h = dvd-zero d
 gcd_greatest (b ∷ A) d h = (gcd_is b (gcd_of A)).greatest d (h b (Memᴰ.head refl)) (gcd_greatest A d (λ a m. h a (Memᴰ.tail m)))
+
+-- it may be taken from the end of the list on
+pub gcd_reversed : (A : List ℕ) → fold (λ d a. gcd a d) 0 (reverse A) ≡ gcd_of A
+unfolding gcd_of
+gcd_reversed [] = refl
+gcd_reversed (a ∷ A) =
+    ap (fold (λ d a. gcd a d) 0) (reverse-cons a A) ∙ fold-append (λ d a. gcd a d) 0 (reverse A) (a ∷ []) ∙ ap (gcd a) (gcd_reversed A)

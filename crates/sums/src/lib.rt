@@ -12,20 +12,13 @@ ghost use Rattle.sums.specs.Divisors.{gcd, gcd_of};
 ghost use Rattle.sums.specs.Sums.{spans};
 ghost use Rattle.sums.specs.WordFrom.{word_from_of};
 
-use answers::{NumberAnswer, Refusal};
+use answers::Refusal;
 
 // The gaps up to 64 as a word, and the number of gaps up to 127.
 #[derive(Clone, Copy)]
 struct Gaps {
     word: u64,
     count: u64,
-}
-
-// A byte as a number of 64 bits.
-fn wide(a: u8) -> u64
-    ensures { result ≡ a }
-{
-    a as u64
 }
 
 // The greatest common divisor of two numbers, by Euclid's algorithm.
@@ -46,13 +39,9 @@ fn gcd_of_two(a: u64, b: u64) -> u64
 fn gcd_of(list: &[u8]) -> u64
     ensures { result ≡ gcd_of list.now }
 {
-    let mut divisor: u64 = 0;
-    let mut i = list.len();
-    while 0 < i {
-        i -= 1;
-        divisor = gcd_of_two(wide(list[i]), divisor);
-    }
-    divisor
+    list.iter()
+        .rev()
+        .fold(0, |divisor, &a| gcd_of_two(u64::from(a), divisor))
 }
 
 // The number `a` as a bit, where it is from `first` to `first + 63`; else no bit.
@@ -73,9 +62,9 @@ fn bit_from(a: u64, first: u64) -> u64
 fn members(list: &[u8], first: u64) -> u64
     ensures { result ≡ bits_from (member_of list.now) first }
 {
-    let mut bits: u64 = 0;
-    for i in 0..list.len() {
-        bits |= bit_from(wide(list[i]), first);
+    let mut bits = 0;
+    for &a in list {
+        bits |= bit_from(u64::from(a), first);
     }
     bits
 }
@@ -100,9 +89,9 @@ fn gaps_of_sums(list: &[u8]) -> Gaps
 {
     let low = members(list, 1);
     let high = members(list, 65);
-    let mut seen: u64 = 1;
-    let mut word: u64 = 0;
-    let mut count: u64 = 0;
+    let mut seen = 1;
+    let mut word = 0;
+    let mut count = 0;
     for k in 0..127u64 {
         if is_sum(seen, low, high, k) {
             seen = seen << 1 | 1;
@@ -118,18 +107,19 @@ fn gaps_of_sums(list: &[u8]) -> Gaps
 }
 
 // The word of the sums of a list of generators, or what is wrong with the list.
-pub fn word_from(list: &[u8]) -> NumberAnswer
+#[tactic(auto, unfolding(crate::specs::WordFrom::word_from_of, crate::specs::WordFrom::few_gaps))]
+pub fn word_from(list: &[u8]) -> Result<u64, Refusal>
     ensures { answered result ≡ word_from_of list.now }
 {
     if !answers::all_positive(list) {
-        return NumberAnswer::Refused(Refusal::ZeroGenerator);
+        return Err(Refusal::ZeroGenerator);
     }
     if gcd_of(list) != 1 {
-        return NumberAnswer::Refused(Refusal::CommonDivisor);
+        return Err(Refusal::CommonDivisor);
     }
     let gaps = gaps_of_sums(list);
     if 32 < gaps.count {
-        return NumberAnswer::Refused(Refusal::TooManyGapsGenerated);
+        return Err(Refusal::TooManyGapsGenerated);
     }
-    NumberAnswer::Given(gaps.word)
+    Ok(gaps.word)
 }

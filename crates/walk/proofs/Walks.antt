@@ -31,9 +31,9 @@ use Rattle.walk.specs.Walks.{rest, standing, in_order, fresh_of, fresh_in_of, st
 -- ---- where a walk stands
 
 -- an unfinished walk in order, with a word of 64 bits, stands on a word of its window
-pub in_order_mem : (w : Walk) → w.word < 2 ^ 64 → in_order w ≡ true → w.finished ≡ false → Memᴰ w.word (window_list w.genus w.lowest w.highest)
+pub in_order_mem : (w : Walk) → w.word < 2 ^ 64 → in_order w ≡ true → w.finished ≡ false → Memᴰ w.word (window_list w.genus w.window.lowest w.window.highest)
 unfolding in_order
-in_order_mem w fits ordered going = held_mem w.genus w.lowest w.highest w.word fits (rw going at ordered)
+in_order_mem w fits ordered going = held_mem w.genus w.window.lowest w.window.highest w.word fits (rw going at ordered)
 
 module _ (g lo hi : ℕ) where
   abbrev L : List ℕ
@@ -55,31 +55,31 @@ module _ (g lo hi : ℕ) where
         rw (le-leb (genus x) 32 (le_trans (le_of_eq h.gapped) small), h.closed, eq-eqb (genus x) g h.gapped, (within_iff lo hi (multiplicity x)).1 (low, high))
 
   -- a walk in order has an end of its window still to give
-  in_order_stands : (x : ℕ) (f : Bool) → x < 2 ^ 64 → in_order record { genus = g; word = x; lowest = lo; highest = hi; finished = f } ≡ true
-      → (k l : List ℕ) × (k ++ l ≡ L) × (standing g lo hi l ≡ record { genus = g; word = x; lowest = lo; highest = hi; finished = f })
+  in_order_stands : (x : ℕ) (f : Bool) → x < 2 ^ 64 → in_order record { genus = g; word = x; window = record { lowest = lo; highest = hi }; finished = f } ≡ true
+      → (k l : List ℕ) × (k ++ l ≡ L) × (standing g lo hi l ≡ record { genus = g; word = x; window = record { lowest = lo; highest = hi }; finished = f })
   unfolding in_order standing none
   in_order_stands x true fits h = (
     L,
     [],
     append-nil L,
-    ap (λ (y : ℕ). record { genus = g; word = y; lowest = lo; highest = hi; finished = true }) (sym (eqb-true x 0 h)),
+    ap (λ (y : ℕ). record { genus = g; word = y; window = record { lowest = lo; highest = hi }; finished = true }) (sym (eqb-true x 0 h)),
   )
   in_order_stands x false fits h = let (k, l, e) = mem_split L (in_order_mem _ fits h refl) in (k, x ∷ l, e, refl)
 
 -- what a walk has still to give is an end of its window
-pub rest_end : (w : Walk) → (k : List ℕ) × (k ++ rest w ≡ window_list w.genus w.lowest w.highest)
+pub rest_end : (w : Walk) → (k : List ℕ) × (k ++ rest w ≡ window_list w.genus w.window.lowest w.window.highest)
 unfolding rest
 rest_end w =
-    let l : List ℕ = window_list w.genus w.lowest w.highest in
+    let l : List ℕ = window_list w.genus w.window.lowest w.window.highest in
     by_value w.finished (λ e. (l, rw e (append-nil l))) (λ e. let (k, s) = on_from_end w.word l in (k, rw e s))
 
 -- its rest is that end, and it is the walk that has its rest still to give
 pub in_order_rest : (w : Walk) → w.word < 2 ^ 64 → in_order w ≡ true
-    → (k : List ℕ) × (k ++ rest w ≡ window_list w.genus w.lowest w.highest) × (standing w.genus w.lowest w.highest (rest w) ≡ w)
+    → (k : List ℕ) × (k ++ rest w ≡ window_list w.genus w.window.lowest w.window.highest) × (standing w.genus w.window.lowest w.window.highest (rest w) ≡ w)
 in_order_rest w fits h =
-    let (k, l, e, s) = in_order_stands w.genus w.lowest w.highest w.word w.finished fits h in
-    let same : rest w ≡ l = ap rest (sym s) ∙ rest_standing w.genus w.lowest w.highest k l e in
-    (k, ap (λ (r : List ℕ). k ++ r) same ∙ e, ap (standing w.genus w.lowest w.highest) same ∙ s)
+    let (k, l, e, s) = in_order_stands w.genus w.window.lowest w.window.highest w.word w.finished fits h in
+    let same : rest w ≡ l = ap rest (sym s) ∙ rest_standing w.genus w.window.lowest w.window.highest k l e in
+    (k, ap (λ (r : List ℕ). k ++ r) same ∙ e, ap (standing w.genus w.window.lowest w.window.highest) same ∙ s)
 
 -- ---- the batch
 
@@ -96,7 +96,7 @@ batch_standing g lo hi small k l lent e =
     ∙ ap (λ (r : List ℕ). moved (standing g lo hi l) r lent) (rest_standing g lo hi k l e)
 
 -- an unfinished walk on a word outside its window is refused
-pub outside_refused : (w : Walk) (lent : List ℕ) → w.genus ≤ 32 → w.finished ≡ false → within w.lowest w.highest (multiplicity w.word) ≡ false
+pub outside_refused : (w : Walk) (lent : List ℕ) → w.genus ≤ 32 → w.finished ≡ false → within w.window.lowest w.window.highest (multiplicity w.word) ≡ false
     → batch_of w lent ≡ unmoved 4 w lent
 unfolding in_order batch_of
 outside_refused w lent small going outside = rw (le-leb w.genus 32 small, going, outside, and-false)
@@ -177,4 +177,4 @@ unfolding standing none
 start_standing g w k l small e =
     let h = genus_list_mem g (subst (Memᴰ w) e (mem_middle k l w)) in
     start_answers w h.fits record { closed = h.closed; few = le_trans (le_of_eq h.gapped) small }
-    ∙ ap (λ (n : ℕ). given record { genus = n; word = w; lowest = 1; highest = 33; finished = false }) h.gapped
+    ∙ ap (λ (n : ℕ). given record { genus = n; word = w; window = record { lowest = 1; highest = 33 }; finished = false }) h.gapped

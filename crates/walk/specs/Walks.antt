@@ -1,33 +1,32 @@
 -- What each call of the walk answers, where the walk stands after it and what the lent list then holds, for all arguments. They come
 -- from the window list, which has the word of every numerical semigroup of a genus with a multiplicity between two bounds once, in list
 -- order, and nothing else: `windows`, `Windows`. Assumes nothing: these are definitions.
-use Rattle.std.specs.Prelude.{ℕ, min, Bool, false, cond, ◌&&◌, List, [], ◌++◌, leb, eqb, length, take, drop, get_or}
+use Rattle.std.specs.Prelude.{ℕ, min, Bool, false, cond, ◌&&◌, List, [], ◌++◌, leb, eqb, length, take, drop, get_or, Result}
 use Rattle.semigroups.specs.Lists.{none, on_from}
 use Rattle.semigroups.specs.Words.{genus, closed}
 use Rattle.semigroups.specs.Elements.{multiplicity}
-use Rattle.answers.specs.Answers.{Answer, refused, given, ask}
+use Rattle.answers.specs.Answers.{Answer, refused, given, answered, ask}
 use Rattle.words.specs.Looks.{ask_word}
 use Rattle.windows.specs.Windows.{within, window_list}
+use Rattle.answers.specs.declared.Refusal.{Refusal}
 use Rattle.walk.specs.declared.Walk.{Walk}
 use Rattle.walk.specs.declared.Written.{Written}
-use Rattle.walk.specs.declared.BatchAnswer.{BatchAnswer}
-use Rattle.walk.specs.Answers.{reported}
 
 -- ---- where a walk stands
 
 -- what the walk has still to give: nothing when finished, else its window from its word on
 unfoldable pub rest : Walk → List ℕ
-rest w = cond w.finished [] (on_from w.word (window_list w.genus w.lowest w.highest))
+rest w = cond w.finished [] (on_from w.word (window_list w.genus w.window.lowest w.window.highest))
 
 -- the walk of genus g in the window from lo to hi that has l still to give: on the first of l, or finished with word 0
 unfoldable pub standing : ℕ → ℕ → ℕ → List ℕ → Walk
-standing g lo hi l = record { genus = g; word = get_or l 0 0; lowest = lo; highest = hi; finished = none l }
+standing g lo hi l = record { genus = g; word = get_or l 0 0; window = record { lowest = lo; highest = hi }; finished = none l }
 
 -- question 4: finished with word 0, or unfinished on an accepted word of its genus in its window
 unfoldable pub in_order : Walk → Bool
 in_order w =
     cond w.finished (eqb w.word 0)
-    (leb (genus w.word) 32 && closed w.word && eqb (genus w.word) w.genus && within w.lowest w.highest (multiplicity w.word))
+    (leb (genus w.word) 32 && closed w.word && eqb (genus w.word) w.genus && within w.window.lowest w.window.highest (multiplicity w.word))
 
 -- questions 3 and 4: is the genus at most 32, and is the walk in order
 abbrev pub ask_walk : {A : Type 0} → (ℕ → A) → Walk → A → A
@@ -45,7 +44,7 @@ fresh_of g = fresh_in_of g 1 33
 
 -- the walk of the genus of w in the window from lo to hi that stands on w
 abbrev pub started_at : ℕ → ℕ → ℕ → Walk
-started_at w lo hi = record { genus = genus w; word = w; lowest = lo; highest = hi; finished = false }
+started_at w lo hi = record { genus = genus w; word = w; window = record { lowest = lo; highest = hi }; finished = false }
 
 -- a walk that starts at the word w, which has to lie in the window
 unfoldable pub start_in_of : ℕ → ℕ → ℕ → Answer Walk
@@ -64,8 +63,8 @@ pub record Ending : Type 0 where
   pub list : List ℕ
 
 -- the ending of a batch that returned r and left this walk and this list
-abbrev pub ended : BatchAnswer → Walk → List ℕ → Ending
-ended r w l = record { answer = reported r; walk = w; list = l }
+abbrev pub ended : Result Written Refusal → Walk → List ℕ → Ending
+ended r w l = record { answer = answered r; walk = w; list = l }
 
 -- refused: the walk and the list are as they were
 abbrev pub unmoved : ℕ → Walk → List ℕ → Ending
@@ -77,7 +76,7 @@ moved w r lent =
     let n : ℕ = min (length lent) (length r) in
     record {
       answer = given record { count = n; finished = none (drop n r) };
-      walk = standing w.genus w.lowest w.highest (drop n r);
+      walk = standing w.genus w.window.lowest w.window.highest (drop n r);
       list = take n r ++ drop n lent;
     }
 

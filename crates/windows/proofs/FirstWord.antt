@@ -1,15 +1,15 @@
 -- The first word of a window: its gaps are the first numbers that the window's largest multiplicity does not divide. Assumes nothing.
 use Prim.Native.Nat.{ℕ, zero, suc, ◌+◌, ◌%◌, ◌≤◌, ◌<◌, min}
-use mathlib.Core.Path.{◌≡◌, refl, sym, ◌∙◌, ap, ap₂, subst}
-use mathlib.Core.Logic.{◌⊎◌, inr, ⊎_elim}
-use mathlib.Core.Bool.{Bool, true, false, not}
+use mathlib.Core.Path.{◌≡◌, refl, sym, ◌∙◌, ap, subst}
+use mathlib.Core.Logic.{◌⊎◌, ⊎_elim}
+use mathlib.Core.Bool.{Bool, true, not}
 use mathlib.Core.List.{List, [], ◌∷◌, Memᴰ}
 use native.Mathlib.Omega.{arith}
 use native.Mathlib.Nat.{le_antisymm, lt_of_not-le}
-use lib.Dec.{eqb}
 use lib.ListN.{length, take}
-use borrow.Author.Tests.{ne_eqb, eqb-true, eqb-false, le-leb, lt-leb}
-use Rattle.semigroups.specs.Lists.{none, run, keep}
+use borrow.Author.Tests.{ne_eqb, le-leb, lt-leb}
+use mathlib.Core.Option.{none, some}
+use Rattle.semigroups.specs.Lists.{run, keep}
 use Rattle.semigroups.specs.Words.{gaps, genus, word_of}
 use Rattle.semigroups.specs.Elements.{multiplicity}
 use Rattle.semigroups.specs.GenusList.{Before, Earlier}
@@ -21,7 +21,7 @@ use Rattle.semigroups.proofs.Closure.{gap_no_multiple}
 use Rattle.semigroups.proofs.Elements.{multiplicity_le_genus}
 use Rattle.answers.specs.Answers.{refused, given}
 use Rattle.windows.specs.Windows.{window_list, least_multiplicity, not_divided}
-use Rattle.windows.specs.Answers.{first_in, first_word_of}
+use Rattle.windows.specs.Answers.{first_word_of}
 use Rattle.windows.proofs.Multiplicities.{earlier_multiplicity}
 use Rattle.windows.proofs.Windows.{window_mem, mem_window, window_ordered, window_none}
 use Rattle.windows.proofs.NotDivided.{undivided, undivided_to, divided_list, divided_fits, divided_genus, divided_multiplicity, enough_for}
@@ -69,22 +69,17 @@ unfolding first_word_of
 first_refused g lo hi h = simp (lt-leb g 32 h)
 
 -- a window that holds none
-pub first_none : (g lo hi : ℕ) → g ≤ 32 → (min hi (g + 1) < lo) ⊎ (min hi (g + 1) < least_multiplicity g) → first_word_of g lo hi ≡ given record { word = 0; empty = true }
-unfolding first_word_of first_in none
+pub first_none : (g lo hi : ℕ) → g ≤ 32 → (min hi (g + 1) < lo) ⊎ (min hi (g + 1) < least_multiplicity g) → first_word_of g lo hi ≡ given none
+unfolding first_word_of
 first_none g lo hi h k = simp (le-leb g 32 h, window_none g lo hi k)
 
 -- a window that holds a word
 pub first_given : (g lo hi m : ℕ) → g ≤ 32 → m ≡ min hi (g + 1) → lo ≤ m → least_multiplicity g ≤ m
-    → first_word_of g lo hi ≡ given record { word = word_of (not_divided g m); empty = false }
-unfolding first_word_of first_in none
+    → first_word_of g lo hi ≡ given (some (word_of (not_divided g m)))
+unfolding first_word_of
 first_given g lo hi m h e low two = let (l, s) = window_first g lo hi m h e low two in simp (le-leb g 32 h, s)
 
--- genus 0 has the word 0 alone, of multiplicity 1
-pub first_zero : (g lo hi m : ℕ) → g ≡ 0 → m ≡ min hi (g + 1) → lo ≤ m → first_word_of g lo hi ≡ given record { word = 0; empty = eqb m 0 }
+-- of genus 0 that is the word 0
+pub no_gaps : (m : ℕ) → word_of (not_divided 0 m) ≡ 0
 unfolding not_divided word_of
-first_zero g lo hi m zero-genus e low =
-    by_value (eqb m 0)
-    (λ f. first_none g lo hi (omega arith) (inr (omega (arith, eqb-true m 0 f))) ∙ ap (λ (b : Bool). given record { word = 0; empty = b }) (sym f))
-    (λ f.
-    first_given g lo hi m (omega arith) e low (omega (arith, eqb-false m 0 f))
-    ∙ ap₂ (λ (n : ℕ) (b : Bool). given record { word = word_of (not_divided n m); empty = b }) zero-genus (sym f))
+no_gaps m = refl

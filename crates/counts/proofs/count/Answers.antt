@@ -3,39 +3,40 @@
 use mathlib.Core.Path.{◌≡◌, sym, ap, ◌∙◌}
 use native.Mathlib.Omega.{arith}
 use Rattle.answers.specs.Answers.{refused, given}
+use Rattle.answers.proofs.Answers.{handed_on}
 use Rattle.words.specs.Looks.{Accepted}
 use Rattle.words.proofs.Looks.{word_refused, word_given}
 use Rattle.nodes.specs.Nodes.{node_of}
 use Rattle.nodes.proofs.Levels.{accepted_levels}
-use Rattle.tables.specs.Answers.{noded, node_answer}
+use Rattle.tables.specs.Answers.{node_answer}
 use Rattle.counts.specs.Counts.{count_of}
 use Rattle.counts.proofs.Counts.{count_is_0_below, count_refused, count_leaves}
 use Rattle.counts.proofs.count.Goals as goal
-use Rattle.counts.proofs.count.Goals.{In-Given}
+use Rattle.counts.proofs.count.Goals.{In_ok-n}
 
 -- a word whose node is given is accepted, and the node is its
-accepted : (c : In-Given) → let w = c.args.word in Accepted w × (c.in-Given.n ≡ node_of w)
+accepted : (c : In_ok-n) → let w = c.args.word in Accepted w × (c.in_ok-n.n ≡ node_of w)
 unfolding node_answer
-accepted c = word_given _ (node_of _) _ (sym c.node_of-answer.ensures ∙ ap noded c.in-Given.is)
+accepted c = word_given _ (node_of _) _ (sym c.in_ok-n.ensures)
 
 pub returns-then-genus-gt32 : goal.returns-then-genus-gt32
-returns-then-genus-gt32 c = sym (count_refused _ _ (accepted (goal.at.returns-then-genus-gt32 c).In-Given).0 c.if-genus-gt32.true)
+returns-then-genus-gt32 c = sym (count_refused _ _ (accepted (goal.at.returns-then-genus-gt32 c).In_ok-n).0 c.if-genus-gt32.true)
 
 pub returns-then-genus-own : goal.returns-then-genus-own
-returns-then-genus-own c = sym (count_is_0_below _ _ (accepted (goal.at.returns-then-genus-own c).In-Given).0 (omega (arith, c.genus_of-own.ensures)))
+returns-then-genus-own c = sym (count_is_0_below _ _ (accepted (goal.at.returns-then-genus-own c).In_ok-n).0 (omega (arith, c.genus_of-own.ensures)))
 
 pub count_node-requires : goal.count_node-requires
 count_node-requires c =
-    let at = (goal.at.count_node-requires c).In-Given in
+    let at = (goal.at.count_node-requires c).In_ok-n in
     rw ((accepted at).1, c.genus_of-own.ensures) (accepted_levels _ _ c.ranges.word.fits (accepted at).0 (omega (arith, c.genus_of-own.ensures)))
 
-pub returns-in-Refused : goal.returns-in-Refused
+pub returns-in_err-n : goal.returns-in_err-n
 unfolding count_of node_answer
-returns-in-Refused c = sym (word_refused _ (node_of _) refused _ _ (sym c.node_of-answer.ensures ∙ ap noded c.in-Refused.is))
+returns-in_err-n c = handed_on _ _ c.from_residual.ensures.1 (sym (word_refused _ (node_of _) refused _ _ (sym c.in_err-n.ensures)))
 
-pub returns-else-genus-own : goal.returns-else-genus-own
+pub returns : goal.returns
 unfolding node_of
-returns-else-genus-own c =
-    let at = (goal.at.returns-else-genus-own c).In-Given in
+returns c =
+    let at = (goal.at.returns c).In_ok-n in
     ap given (rw ((accepted at).1, c.genus_of-own.ensures) at c.count_node.ensures)
     ∙ sym (count_leaves _ _ (accepted at).0 c.if-genus-gt32.false (omega (arith, c.genus_of-own.ensures)) c.ranges.word.fits)

@@ -2,7 +2,7 @@
 use Rattle.std.proofs.Common.{ℕ, sym, ap, ◌∙◌, arith}
 use Rattle.nodes.specs.Branches.{branches}
 use Rattle.nodes.proofs.Levels.{node_conductor}
-use Rattle.nodes.proofs.NewGaps.{upper_equal, upper_lowest, upper_again}
+use Rattle.nodes.proofs.NewGaps.{upper_lowest, upper_again}
 use Rattle.nodes.proofs.Childless.{upper_offsets, childless_branches}
 use Rattle.nodes.proofs.Branches.{branches_none, Row, row_branches, no_leaves, FirstChild, first_child}
 use Rattle.lending.specs.Lending.{put_all}
@@ -26,13 +26,6 @@ pub emit-put_great_grandchildren-requires-clause-word_bound : goal.emit-put_grea
 emit-put_great_grandchildren-requires-clause-word_bound t c =
     omega (arith, c.second_element.ensures, node_conductor _ _ c.requires.node_with_levels)
 
--- else the words below its first row
-pub emit-emit_from-requires : goal.emit-emit_from-requires
-emit-emit_from-requires t c =
-    let row : Row c.args.left c.args.n c.first_row-row.result =
-    row_branches _ _ (λ e. omega (arith, c.requires.le_left)) c.requires.node_with_levels c.first_row-row.ensures in
-    (omega arith, (row.node_levels, (upper_equal (omega arith) c.first_row-row.ensures, c.requires.at_in_bounds)))
-
 pub emit-returns : goal.emit-returns
 emit-returns t c =
     let row : Row c.args.left c.args.n c.first_row-row.result =
@@ -50,20 +43,20 @@ first c =
     let now = c.loop-rest.invariant in
     first_child _ _ c.requires.node_with_levels (upper_offsets _ _ c.requires.node_with_levels now.0) (upper_lowest now.0 (omega arith) c.lowest_of-low.ensures) c.child.ensures
 
-pub emit_from-emit-t-requires : goal.emit_from-emit-t-requires
-emit_from-emit-t-requires t c =
-    (omega arith, (omega arith, ((first (goal.at.emit_from-emit-t-requires t c).After-child).node_levels, c.loop-rest.invariant.1.room)))
+pub emit_from-emit-requires : goal.emit_from-emit-requires
+emit_from-emit-requires t c =
+    (omega arith, (omega arith, (first (goal.at.emit_from-emit-requires t c).After-child).node_levels))
 
-pub emit_from-returns-then-out-t : goal.emit_from-returns-then-out-t
-emit_from-returns-then-out-t t c =
-    putting_stops c.loop-rest.invariant.1 _ _ (first (goal.at.emit_from-returns-then-out-t t c).After-child).parts c.emit-t.ensures (omega (arith, c.if-out-t.true))
+pub emit_from-returns-in_err-at : goal.emit_from-returns-in_err-at
+emit_from-returns-in_err-at t c =
+    putting_stops c.loop-rest.invariant.1 _ _ (first (goal.at.emit_from-returns-in_err-at t c).After-child).parts c.from_residual.ensures.1 c.in_err-at.ensures
 
 -- where there is room, the others are left
-pub emit_from-loop-rest-preserved-else-out-t : goal.emit_from-loop-rest-preserved-else-out-t
-emit_from-loop-rest-preserved-else-out-t t c =
+pub emit_from-loop-rest-preserved-in_ok-at : goal.emit_from-loop-rest-preserved-in_ok-at
+emit_from-loop-rest-preserved-in_ok-at t c =
     let now = c.loop-rest.invariant in (
       upper_again now.0 (omega arith) c.lowest_of-low.ensures,
-      putting_on now.1 _ _ (first (goal.at.emit_from-loop-rest-preserved-else-out-t t c).After-child).parts c.emit-t.ensures (omega (arith, c.if-out-t.false)),
+      putting_on now.1 _ _ (first (goal.at.emit_from-loop-rest-preserved-in_ok-at t c).After-child).parts c.in_ok-at.ensures,
     )
 
 -- a child that is not made has none below it

@@ -1,9 +1,8 @@
 -- The proof of `resume`, which calls itself. Assumes nothing.
-use Rattle.std.proofs.Common.{◌≡◌, ℕ, ◌<◌, ◌≤◌, sym, ap, ◌∙◌, arith}
+use Rattle.std.proofs.Common.{◌≡◌, ℕ, ◌<◌, ◌≤◌, ap, ◌∙◌, arith}
 use Rattle.semigroups.specs.Positions.{above}
 use Rattle.semigroups.specs.Elements.{multiplicity}
 use Rattle.nodes.specs.Nodes.{first_row}
-use Rattle.nodes.proofs.NewGaps.{upper_above}
 use Rattle.lending.proofs.Lending.{put_stops, put_follows}
 use Rattle.descendants.proofs.Resuming.{on_from_own, Below, next_child}
 use Rattle.descendants.proofs.Cut.{later_parts, later_cut, later_kept, kept_own}
@@ -24,35 +23,26 @@ returns-then-left-eq0 t c =
     let none = c.if-left-eq0.true in
     rw (none, on_from_own _ _ (rw none at c.requires.fact), kept_own _ _ c.requires.lowest_bound) c.put.ensures
 
-pub resume-t-requires : goal.resume-t-requires
-resume-t-requires t c =
-    let b = found (goal.at.resume-t-requires t c).After-next_offset-d in
-    (omega arith, rw c.child.ensures (b.child, (b.leaf, (c.requires.lowest_bound, c.requires.at_in_bounds))))
+pub resume-requires : goal.resume-requires
+resume-requires t c =
+    let b = found (goal.at.resume-requires t c).After-next_offset-d in
+    (omega arith, rw c.child.ensures (b.child, (b.leaf, c.requires.lowest_bound)))
 
 -- a word found no room: nothing more is put
-pub returns-then-out-t : goal.returns-then-out-t
-returns-then-out-t t c =
-    let b = found (goal.at.returns-then-out-t t c).After-next_offset-d in
-    sym (put_stops _ _ (rw (← c.child.ensures) at (later_parts c.args.lowest _ _ _ _ b)) _ _ c.resume-t.ensures (omega (arith, c.if-out-t.true)))
+pub returns-in_err-next : goal.returns-in_err-next
+returns-in_err-next t c =
+    let b = found (goal.at.returns-in_err-next t c).After-next_offset-d in
+    put_stops _ _ (rw (← c.child.ensures) at (later_parts c.args.lowest _ _ _ _ b)) _ _ c.from_residual.ensures.1 c.in_err-next.ensures
 
 -- the multiplicity of the node is below the lowest: the later branches are cut
 pub returns-then-multiplicity_of-lowest : goal.returns-then-multiplicity_of-lowest
 returns-then-multiplicity_of-lowest t c =
     let b = found (goal.at.returns-then-multiplicity_of-lowest t c).After-next_offset-d in
     let below : multiplicity c.args.n.word < c.args.lowest = omega (arith, c.multiplicity_of.ensures) in
-    rw (later_cut _ _ _ _ _ b below, ← c.child.ensures) c.resume-t.ensures
+    rw (later_cut _ _ _ _ _ b below, ← c.child.ensures) c.in_ok-next.ensures
 
 pub later-requires : goal.later-requires
 later-requires t c = omega (arith, (found (goal.at.later-requires t c).After-next_offset-d).near)
-
-pub emit_from-requires : goal.emit_from-requires
-emit_from-requires t c =
-    let at = goal.at.emit_from-requires t c in
-    record {
-      node_with_levels = (found at.After-next_offset-d).node_levels;
-      upper = upper_above _ (omega (arith, c.first_row.ensures)) (after at.After-later);
-      from_in_bounds = omega (arith, c.if-out-t.false);
-    }
 
 -- otherwise they follow
 pub returns : goal.returns
@@ -61,4 +51,4 @@ returns t c =
     let b = found at.After-next_offset-d in
     let inside : c.args.lowest ≤ multiplicity c.args.n.word = omega (arith, c.multiplicity_of.ensures) in
     c.emit_from.ensures
-    ∙ sym (put_follows _ _ (rw (← c.child.ensures, ← after at.After-later) at (later_kept _ _ _ _ _ b inside)) _ _ c.resume-t.ensures (omega (arith, c.if-out-t.false)))
+    ∙ put_follows _ _ (rw (← c.child.ensures, ← after at.After-later) at (later_kept _ _ _ _ _ b inside)) _ _ c.in_ok-next.ensures

@@ -1,9 +1,7 @@
 -- `descendants::first_leaf` meets its contract: in a list without places the first word finds no room. Assumes nothing.
-use native.Mathlib.Omega.{arith}
-use borrow.Author.Tests.{lt-ltb, le-ltb}
+use Rattle.std.proofs.Common.{rules}
 use Rattle.semigroups.specs.Tree.{leaves}
 use Rattle.nodes.proofs.Branches.{Row, row_branches}
-use Rattle.nodes.proofs.NewGaps.{upper_equal}
 use Rattle.lending.proofs.Lending.{put_nowhere}
 use Rattle.descendants.proofs.first_leaf.Goals as goal
 use Rattle.descendants.proofs.first_leaf.Goals.{After-first_row}
@@ -17,17 +15,6 @@ pub returns-then-left-eq0 : goal.returns-then-left-eq0
 unfolding leaves
 returns-then-left-eq0 c = rw c.if-left-eq0.true
 
-pub emit_from-s-requires : goal.emit_from-s-requires
-emit_from-s-requires c = record {
-  node_with_levels = (row (goal.at.emit_from-s-requires c).After-first_row).node_levels;
-  upper = upper_equal (omega arith) c.first_row.ensures;
-  from_in_bounds = omega arith;
-}
-
-pub returns-then-s-gt0 : goal.returns-then-s-gt0
-returns-then-s-gt0 c =
-    rw ((row (goal.at.returns-then-s-gt0 c).After-first_row).all, ← put_nowhere _ c.emit_from-s.ensures, lt-ltb _ _ c.if-s-gt0.true)
-
 pub returns : goal.returns
 returns c =
-    rw ((row (goal.at.returns c).After-first_row).all, ← put_nowhere _ c.emit_from-s.ensures, le-ltb _ _ c.if-s-gt0.false)
+    rw ((row (goal.at.returns c).After-first_row).all, ← put_nowhere _ c.emit_from.ensures) (search rules)

@@ -3,18 +3,19 @@ use Prim.Native.Nat.{ℕ, suc}
 use mathlib.Core.Path.{◌≡◌, sym, ap, ap₂, ◌∙◌}
 use mathlib.Core.List.{List, Memᴰ}
 use native.Mathlib.Omega.{arith}
+use Rattle.std.specs.Prelude.{Ok}
 use Rattle.semigroups.specs.Words.{child_word}
 use Rattle.semigroups.specs.Positions.{positions}
 use Rattle.semigroups.specs.Tree.{leaves}
 use Rattle.nodes.specs.NewGaps.{gap_branches}
 use Rattle.nodes.proofs.Branches.{TakenOff}
-use Rattle.nodes.proofs.NewGaps.{upper_all, upper_lowest, upper_bit, upper_again, gap_branches_none, gap_branches_first, gap_word}
+use Rattle.nodes.proofs.NewGaps.{upper_lowest, upper_bit, upper_again, gap_branches_none, gap_branches_first, gap_word}
 use Rattle.nodes.proofs.MovedRows.{child_row_computed, two_rows_low, two_levels_below, two_rows_fit, one_level_below, child_bits_fit}
-use Rattle.lending.specs.Lending.{up_to, put_all, with_each}
-use Rattle.lending.proofs.Lending.{putting_all, putting_none, putting_stops, putting_on}
+use Rattle.lending.specs.Lending.{put_all, with_each}
+use Rattle.lending.proofs.Lending.{putting_none, putting_stops, putting_on}
 use Rattle.descendants.proofs.NewWords.{gap_words}
 use Rattle.descendants.proofs.put_by_rows.Goals as goal
-use Rattle.descendants.proofs.put_by_rows.Goals.{After-lowest_of-low, After-put_bits-t}
+use Rattle.descendants.proofs.put_by_rows.Goals.{After-lowest_of-low, After-put_bits}
 
 -- the lowest generator, taken off the others
 lowest : (c : After-lowest_of-low) → TakenOff c.loop-rest.rest c.lowest_of-low.result.at.0 c.lowest_of-low.result.rest
@@ -25,24 +26,18 @@ among : (c : After-lowest_of-low) → Memᴰ c.lowest_of-low.result.at.0 (positi
 among c = upper_bit c.loop-rest.invariant.0 (omega arith) c.lowest_of-low.ensures
 
 -- the words below the child without it are put
-put : (c : After-put_bits-t)
-    → (c.put_bits-t.new.out, c.put_bits-t.result)
-    ≡ put_all (leaves 1 (child_word c.args.word (suc c.lowest_of-low.result.at.0))) (c.loop-rest.out, up_to c.loop-rest.at)
+put : (c : After-put_bits)
+    → (c.put_bits.new.out, c.put_bits.result)
+    ≡ put_all (leaves 1 (child_word c.args.word (suc c.lowest_of-low.result.at.0))) (c.loop-rest.out, Ok c.loop-rest.at)
 put c =
     let now = c.loop-rest in
     let low = upper_lowest now.invariant.0 (omega arith) c.lowest_of-low.ensures in
     let one = upper_bit now.invariant.0 (omega arith) c.lowest_of-low.ensures in
     let row = child_row_computed c.args.seeds c.args.m now.invariant.0 (omega arith) c.lowest_of-low.ensures in
-    c.put_bits-t.ensures
-    ∙ ap₂ (λ (v b : ℕ). put_all (with_each v b) (now.out, up_to now.at)) (gap_word _ low) row
-    ∙ ap (λ (l : List ℕ). put_all l (now.out, up_to now.at))
+    c.put_bits.ensures
+    ∙ ap₂ (λ (v b : ℕ). put_all (with_each v b) (now.out, Ok now.at)) (gap_word _ low) row
+    ∙ ap (λ (l : List ℕ). put_all l (now.out, Ok now.at))
     (gap_words _ _ (child_bits_fit c.requires.two_rows one) ∙ sym (one_level_below c.requires.two_rows one))
-
-pub loop-rest-init : goal.loop-rest-init
-loop-rest-init c = (upper_all c.ranges.generators.fits, putting_all c.requires.from_in_bounds)
-
-pub overflow_sub-e : goal.overflow_sub-e
-overflow_sub-e c = omega (arith, (lowest (goal.at.overflow_sub-e c).After-lowest_of-low).fewer)
 
 pub overflow_add-word : goal.overflow_add-word
 overflow_add-word c =
@@ -52,28 +47,19 @@ overflow_add-word c =
 pub overflow_shl-seeds : goal.overflow_shl-seeds
 overflow_shl-seeds c = two_rows_low c.requires.two_rows
 
-pub shape_of-out-then-out-t : goal.shape_of-out-then-out-t
-shape_of-out-then-out-t c = c.put_bits-t.auto.out ∙ c.loop-rest.invariant.1.same
-
-pub returns-then-out-t : goal.returns-then-out-t
-returns-then-out-t c =
-    let at = goal.at.returns-then-out-t c in
+pub returns-in_err-at : goal.returns-in_err-at
+returns-in_err-at c =
+    let at = goal.at.returns-in_err-at c in
     rw (two_levels_below c.requires.two_rows)
-    (putting_stops c.loop-rest.invariant.1 _ _ (gap_branches_first _ (lowest at.After-lowest_of-low) 1) (put at.After-put_bits-t) (omega (arith, c.if-out-t.true)))
-
-pub loop-rest-smaller : goal.loop-rest-smaller
-loop-rest-smaller c = (lowest (goal.at.loop-rest-smaller c).After-lowest_of-low).fewer
+    (putting_stops c.loop-rest.invariant.1 _ _ (gap_branches_first _ (lowest at.After-lowest_of-low) 1) c.from_residual.ensures.1 (rw c.in_err-at.was at (put at.After-put_bits)))
 
 pub loop-rest-preserved : goal.loop-rest-preserved
 loop-rest-preserved c =
     let at = goal.at.loop-rest-preserved c in
     let now = c.loop-rest in (
       upper_again now.invariant.0 (omega arith) c.lowest_of-low.ensures,
-      putting_on now.invariant.1 _ _ (gap_branches_first _ (lowest at.After-lowest_of-low) 1) (put at.After-put_bits-t) (omega (arith, c.if-out-t.false)),
+      putting_on now.invariant.1 _ _ (gap_branches_first _ (lowest at.After-lowest_of-low) 1) (rw c.in_ok-at.was at (put at.After-put_bits)),
     )
-
-pub shape_of-out : goal.shape_of-out
-shape_of-out c = c.loop-rest.invariant.1.same
 
 pub returns : goal.returns
 returns c =

@@ -16,5 +16,4 @@ overflow_shl-second_row c = omega (arith, conductor_within 2 _ c.requires.node_w
 pub put_by_rows-requires : goal.put_by_rows-requires
 put_by_rows-requires c = record {
   two_rows = node_two_rows _ c.multiplicity_of-m.ensures c.first_row.ensures c.second_row.ensures c.requires.node_with_levels c.requires.word_bound;
-  from_in_bounds = c.requires.at_in_bounds;
 }

@@ -3,20 +3,19 @@
 use Prim.Native.Nat.{ℕ, suc, ◌*◌, ◌-◌, ◌%◌, ◌^◌}
 use mathlib.Core.Path.{◌≡◌, ap, ◌∙◌}
 use native.Mathlib.Omega.{arith}
-use native.Mathlib.Nat.{mod-lt}
-use lib.Pow.{pow_pos}
+use Rattle.std.specs.Prelude.{Ok}
 use Rattle.semigroups.specs.Words.{child_word}
 use Rattle.semigroups.specs.Tree.{leaves}
 use Rattle.nodes.specs.NewGaps.{gap_branches, ThreeRows}
 use Rattle.nodes.proofs.Levels.{conductor_within}
 use Rattle.nodes.proofs.Rows.{second_above}
 use Rattle.nodes.proofs.Branches.{TakenOff}
-use Rattle.nodes.proofs.NewGaps.{upper_all, upper_lowest, upper_bit, upper_again, gap_branches_none, gap_branches_first, gap_word}
+use Rattle.nodes.proofs.NewGaps.{upper_lowest, upper_bit, upper_again, gap_branches_none, gap_branches_first, gap_word}
 use Rattle.nodes.proofs.MovedRows.{three_rows_low, three_levels_below, three_rows_fit, child_two_rows_computed, node_three_rows}
-use Rattle.lending.specs.Lending.{up_to, put_all}
-use Rattle.lending.proofs.Lending.{putting_all, putting_none, putting_stops, putting_on}
+use Rattle.lending.specs.Lending.{put_all}
+use Rattle.lending.proofs.Lending.{putting_none, putting_stops, putting_on}
 use Rattle.descendants.proofs.put_great_grandchildren.Goals as goal
-use Rattle.descendants.proofs.put_great_grandchildren.Goals.{After-first_row, After-lowest_of-low, After-put_by_rows-t}
+use Rattle.descendants.proofs.put_great_grandchildren.Goals.{After-first_row, After-lowest_of-low, After-put_by_rows}
 
 -- the rows that were read
 module _ (c : After-first_row) where
@@ -35,13 +34,13 @@ lowest : (c : After-lowest_of-low) → TakenOff c.loop-rest.rest c.lowest_of-low
 lowest c = upper_lowest c.loop-rest.invariant.0 (omega arith) c.lowest_of-low.ensures
 
 -- the words two levels below the child without it are put
-put : (c : After-put_by_rows-t)
-    → (c.put_by_rows-t.new.out, c.put_by_rows-t.result)
-    ≡ put_all (leaves 2 (child_word c.args.n.word (suc c.lowest_of-low.result.at.0))) (c.loop-rest.out, up_to c.loop-rest.at)
+put : (c : After-put_by_rows)
+    → (c.put_by_rows.new.out, c.put_by_rows.result)
+    ≡ put_all (leaves 2 (child_word c.args.n.word (suc c.lowest_of-low.result.at.0))) (c.loop-rest.out, Ok c.loop-rest.at)
 put c =
     let now = c.loop-rest in
     let low = upper_lowest now.invariant.0 (omega arith) c.lowest_of-low.ensures in
-    c.put_by_rows-t.ensures ∙ ap (λ (v : ℕ). put_all (leaves 2 v) (now.out, up_to now.at)) (gap_word _ low)
+    c.put_by_rows.ensures ∙ ap (λ (v : ℕ). put_all (leaves 2 v) (now.out, Ok now.at)) (gap_word _ low)
 
 pub overflow_sub-up : goal.overflow_sub-up
 overflow_sub-up c = (conductor_within 3 _ c.requires.node_with_levels).0
@@ -59,12 +58,6 @@ overflow_shl-last c = omega (arith, conductor_within 3 _ c.requires.node_with_le
 pub overflow_shl-rest : goal.overflow_shl-rest
 overflow_shl-rest c = omega (arith, conductor_within 3 _ c.requires.node_with_levels)
 
-pub loop-rest-init : goal.loop-rest-init
-loop-rest-init c = (upper_all (mod-lt _ (pow_pos 64)), putting_all c.requires.from_in_bounds)
-
-pub overflow_sub-e : goal.overflow_sub-e
-overflow_sub-e c = omega (arith, (lowest (goal.at.overflow_sub-e c).After-lowest_of-low).fewer)
-
 -- it is one of the generators, so that the word without it fits
 pub overflow_add-w : goal.overflow_add-w
 overflow_add-w c =
@@ -79,36 +72,23 @@ pub overflow_shl-last-in-loop-rest : goal.overflow_shl-last-in-loop-rest
 overflow_shl-last-in-loop-rest c = (three_rows_low (rows (goal.at.overflow_shl-last-in-loop-rest c).After-first_row)).1
 
 -- rows 0 and 1 of that word are made of the generator, of the others and of the rows
-pub put_by_rows-t-requires : goal.put_by_rows-t-requires
-put_by_rows-t-requires c =
-    let now = c.loop-rest.invariant in
-    record {
-      two_rows = child_two_rows_computed (rows (goal.at.put_by_rows-t-requires c).After-first_row) now.0 (omega arith) c.lowest_of-low.ensures;
-      from_in_bounds = now.1.room;
-    }
+pub put_by_rows-requires : goal.put_by_rows-requires
+put_by_rows-requires c =
+    record { two_rows = child_two_rows_computed (rows (goal.at.put_by_rows-requires c).After-first_row) c.loop-rest.invariant.0 (omega arith) c.lowest_of-low.ensures }
 
-pub shape_of-out-then-out-t : goal.shape_of-out-then-out-t
-shape_of-out-then-out-t c = c.put_by_rows-t.auto.out ∙ c.loop-rest.invariant.1.same
-
-pub returns-then-out-t : goal.returns-then-out-t
-returns-then-out-t c =
-    let at = goal.at.returns-then-out-t c in
+pub returns-in_err-at : goal.returns-in_err-at
+returns-in_err-at c =
+    let at = goal.at.returns-in_err-at c in
     rw (three_levels_below (rows at.After-first_row))
-    (putting_stops c.loop-rest.invariant.1 _ _ (gap_branches_first _ (lowest at.After-lowest_of-low) 2) (put at.After-put_by_rows-t) (omega (arith, c.if-out-t.true)))
-
-pub loop-rest-smaller : goal.loop-rest-smaller
-loop-rest-smaller c = (lowest (goal.at.loop-rest-smaller c).After-lowest_of-low).fewer
+    (putting_stops c.loop-rest.invariant.1 _ _ (gap_branches_first _ (lowest at.After-lowest_of-low) 2) c.from_residual.ensures.1 (rw c.in_err-at.was at (put at.After-put_by_rows)))
 
 pub loop-rest-preserved : goal.loop-rest-preserved
 loop-rest-preserved c =
     let at = goal.at.loop-rest-preserved c in
     let now = c.loop-rest in (
       upper_again now.invariant.0 (omega arith) c.lowest_of-low.ensures,
-      putting_on now.invariant.1 _ _ (gap_branches_first _ (lowest at.After-lowest_of-low) 2) (put at.After-put_by_rows-t) (omega (arith, c.if-out-t.false)),
+      putting_on now.invariant.1 _ _ (gap_branches_first _ (lowest at.After-lowest_of-low) 2) (rw c.in_ok-at.was at (put at.After-put_by_rows)),
     )
-
-pub shape_of-out : goal.shape_of-out
-shape_of-out c = c.loop-rest.invariant.1.same
 
 pub returns : goal.returns
 returns c =

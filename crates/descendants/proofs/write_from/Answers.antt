@@ -2,7 +2,6 @@
 -- nothing.
 use mathlib.Core.Path.{◌≡◌, sym, ◌∙◌}
 use mathlib.Core.Bool.{true}
-use native.Mathlib.Omega.{arith}
 use Rattle.nodes.specs.Nodes.{node_of}
 use Rattle.nodes.proofs.Levels.{root_levels}
 use Rattle.windows.specs.Windows.{holds}
@@ -11,7 +10,7 @@ use Rattle.descendants.proofs.write_from.Goals as goal
 use Rattle.descendants.proofs.write_from.Goals.{Else-not-has_word}
 
 -- the window holds the word
-held : (c : Else-not-has_word) → let a = c.args in holds a.genus a.lowest a.highest a.word ≡ true
+held : (c : Else-not-has_word) → let a = c.args in holds a.genus a.window.lowest a.window.highest a.word ≡ true
 held c = sym c.has_word.ensures ∙ c.if-not-has_word.false
 
 pub returns-then-not-has_word : goal.returns-then-not-has_word
@@ -27,7 +26,6 @@ resume-requires c =
       node_with_levels = rw c.root.ensures (root_levels _ (from_small _ _ _ _ fits held));
       fact = rw c.root.ensures leaf.0;
       lowest_bound = leaf.1;
-      at_in_bounds = omega arith;
     }
 
 pub returns : goal.returns

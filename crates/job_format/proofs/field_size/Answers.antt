@@ -1,12 +1,13 @@
 -- `job_format::field_size` meets its contract. Assumes nothing.
-use mathlib.Core.Path.{sym, ◌∙◌}
+use Rattle.std.proofs.Common.{sym, ◌∙◌}
 use Rattle.job_format.specs.Format.{field_size}
+use Rattle.job_format.proofs.Format.{width_had}
 use Rattle.job_format.proofs.field_size.Goals as goal
 
-pub returns-then-stands : goal.returns-then-stands
+pub returns-then-not-stands : goal.returns-then-not-stands
 unfolding field_size
-returns-then-stands c = rw (sym c.stands.ensures ∙ c.if-stands.true) c.form_of-form.ensures.0
+returns-then-not-stands c = rw (sym c.stands.ensures ∙ c.if-not-stands.true)
 
 pub returns : goal.returns
 unfolding field_size
-returns c = rw (sym c.stands.ensures ∙ c.if-stands.false)
+returns c = rw (sym c.stands.ensures ∙ c.if-not-stands.false) (c.unwrap_or.ensures ∙ rw c.form_of.ensures (width_had c.args.at))

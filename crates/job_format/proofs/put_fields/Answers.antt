@@ -9,7 +9,7 @@ use Rattle.semigroups.specs.Lists.{run, joined, fronted}
 use Rattle.semigroups.proofs.Lists.{fronted_set, fronted_twice}
 use Rattle.job_format.specs.Bytes.{bytes_of}
 use Rattle.job_format.specs.Format.{field_size, job_length, laid_before}
-use Rattle.job_format.proofs.Format.{place_next, place_within, place_pos, place_0, field_within, laid_next, laid_length}
+use Rattle.job_format.proofs.Format.{size_le, place_next, place_within, place_pos, place_0, field_within, laid_next, laid_length}
 use Rattle.job_format.proofs.put_fields.Invariants.{front_to}
 use Rattle.job_format.proofs.put_fields.Goals as goal
 
@@ -30,7 +30,7 @@ bounds-out-0 c = omega (arith, c.requires, place_pos c.args.map 7)
 pub put_value-at-requires : goal.put_value-at-requires
 put_value-at-requires c =
     let map : ℕ = c.args.map in
-    omega (arith, length-set c.args.out.now 0 map, c.requires, c.field_size.ensures, place_0 map, place_within map 0 7 (omega arith))
+    omega (arith, length-set c.args.out.now 0 map, c.requires, c.field_size.ensures, size_le map 7, place_0 map, place_within map 0 7 (omega arith))
 
 pub loop-i-init : goal.loop-i-init
 loop-i-init c =
@@ -43,7 +43,7 @@ loop-i-init c =
 
 pub put_value-at-requires-in-loop-i : goal.put_value-at-requires-in-loop-i
 put_value-at-requires-in-loop-i c =
-    omega (arith, length-set c.args.out.now 0 c.args.map, c.requires, c.field_size-in-loop-i.ensures, field_within c.args.map c.loop-i.i (omega arith))
+    omega (arith, length-set c.args.out.now 0 c.args.map, c.requires, c.field_size-in-loop-i.ensures, size_le c.args.map c.loop-i.i, field_within c.args.map c.loop-i.i (omega arith))
 
 pub loop-i-preserved : goal.loop-i-preserved
 loop-i-preserved c =

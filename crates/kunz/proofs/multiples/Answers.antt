@@ -11,3 +11,6 @@ loop-at-preserved c = multiples_next _ _ _ c.requires.0 (omega arith) c.loop-at.
 
 pub returns : goal.returns
 returns c = multiples_all _ _ _ (omega arith) c.loop-at.invariant
+
+pub returns-2 : goal.returns-2
+returns-2 c = multiples_all _ _ _ (omega arith) (multiples_next _ c.loop-at.bits c.loop-at.at c.requires.0 (omega arith) c.loop-at.invariant)

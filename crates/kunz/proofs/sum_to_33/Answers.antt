@@ -7,17 +7,13 @@ use Rattle.semigroups.proofs.Lists.{sum_from}
 use Rattle.kunz.proofs.sum_to_33.Goals as goal
 
 pub returns-then-sum-eq33 : goal.returns-then-sum-eq33
-returns-then-sum-eq33 c =
-    let next = sum_from (λ x. x) c.args.list.now c.loop-i.i (omega arith) in
-    omega (arith, c.add_to_33-sum.ensures)
+returns-then-sum-eq33 c = omega (arith, sum_from (λ x. x) c.args.list.now c.loop-x.x-index (omega arith), c.add_to_33-sum.ensures)
 
-pub loop-i-preserved : goal.loop-i-preserved
-loop-i-preserved c =
-    let next = sum_from (λ x. x) c.args.list.now c.loop-i.i (omega arith) in
-    omega (arith, c.add_to_33-sum.ensures)
+pub loop-x-preserved : goal.loop-x-preserved
+loop-x-preserved c = omega (arith, sum_from (λ x. x) c.args.list.now c.loop-x.x-index (omega arith), c.add_to_33-sum.ensures)
 
 pub returns : goal.returns
 unfolding sum_over
 returns c =
     let l = c.args.list.now in
-    omega (arith, ap (sum_over (λ x. x)) (drop_of_length-le l {i = c.loop-i.i} (omega arith)))
+    omega (arith, ap (sum_over (λ x. x)) (drop_of_length-le l {i = c.loop-x.x-index} (omega arith)))

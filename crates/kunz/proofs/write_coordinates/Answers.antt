@@ -1,12 +1,12 @@
 -- `kunz::write_coordinates` meets its contract. Assumes nothing.
-use Prim.Native.Nat.{ℕ, suc, ◌/◌, ◌^◌, ◌≤◌, ◌<◌}
+use Prim.Native.Nat.{ℕ, suc, ◌-◌, ◌/◌, ◌^◌, ◌≤◌, ◌<◌}
 use mathlib.Core.Path.{◌≡◌, refl, sym, ap, ap₂, ◌∙◌}
-use mathlib.Core.List.{List}
+use mathlib.Core.List.{List, ◌++◌, append-nil}
 use native.Mathlib.Omega.{arith}
 use lib.Bits.{bit_and}
 use lib.Count.{ones}
-use lib.ListN.{length, get_or, set, length-set}
-use lib.Seq.{take_all}
+use lib.ListN.{length, get_or, take, drop, set, drop_of_length-le}
+use lib.Seq.{take_all, length-take-le}
 use Rattle.semigroups.specs.Lists.{fronted}
 use Rattle.semigroups.specs.Elements.{multiplicity}
 use Rattle.semigroups.proofs.Lists.{fronted_next}
@@ -25,20 +25,23 @@ multiples-places-requires c =
     let fits = c.ranges.word.fits in
     omega (arith, c.requires.0.multiplicity_is, multiplicity_pos w fits, multiplicity_le w fits)
 
-pub overflow_sub-k-end : goal.overflow_sub-k-end
-overflow_sub-k-end c = omega (arith, c.requires.0.multiplicity_is, multiplicity_pos c.args.word c.ranges.word.fits)
+pub slice_bounds-entry-items-count : goal.slice_bounds-entry-items-count
+slice_bounds-entry-items-count c = omega (arith, c.requires.0.multiplicity_is, multiplicity_pos c.args.word c.ranges.word.fits)
+
+pub slice_bounds-entry-items-end : goal.slice_bounds-entry-items-end
+slice_bounds-entry-items-end c = omega (arith, c.requires.0.multiplicity_is, coordinates_number c.args.word)
+
+pub slice_bounds-entry-items-length : goal.slice_bounds-entry-items-length
+slice_bounds-entry-items-length c =
+    sym (length-take-le (c.args.m - 1) c.args.out.now (omega (arith, c.requires.0.multiplicity_is, coordinates_number c.args.word)))
 
 pub loop-k-init : goal.loop-k-init
 unfolding fronted
-loop-k-init c = (omega arith, refl, refl)
+loop-k-init c = refl
 
-pub overflow_shr-out : goal.overflow_shr-out
-overflow_shr-out c = omega (arith, c.requires.0.multiplicity_is, multiplicity_le c.args.word c.ranges.word.fits)
-
-pub bounds-out-k : goal.bounds-out-k
-bounds-out-k c =
-    let (done, sized, list) = c.loop-k.invariant in
-    omega (arith, c.requires.0.multiplicity_is, c.requires.1, coordinates_number c.args.word)
+pub overflow_shr-entry : goal.overflow_shr-entry
+overflow_shr-entry c =
+    omega (arith, c.requires.0.multiplicity_is, multiplicity_le c.args.word c.ranges.word.fits, length-take-le (c.args.m - 1) c.args.out.now (omega (arith, c.requires.0.multiplicity_is, coordinates_number c.args.word)))
 
 pub loop-k-preserved : goal.loop-k-preserved
 unfolding entry_at
@@ -47,21 +50,25 @@ loop-k-preserved c =
     let fits = c.ranges.word.fits in
     let m-is = c.requires.0.multiplicity_is in
     let k : ℕ = c.loop-k.k in
-    let (done, sized, list) = c.loop-k.invariant in
-    let low : suc k < multiplicity w = omega arith in
-    let places = c.multiples-places.ensures ∙ ap multiples_as_bits m-is in
+    let part : List ℕ = take (c.args.m - 1) c.args.out.now in
+    let whole : length part ≡ length (kunz_coordinates w) = length-take-le (c.args.m - 1) c.args.out.now (omega (arith, coordinates_number w)) ∙ omega (arith, coordinates_number w) in
+    let more : k < length (kunz_coordinates w) = omega arith in
+    let low : suc k < multiplicity w = omega (arith, coordinates_number w) in
     let value : ones (bit_and (w / 2 ^ k) c.multiples-places.result) ≡ get_or (kunz_coordinates w) k 0 =
-    ap (λ (p : ℕ). ones (bit_and (w / 2 ^ k) p)) places ∙ coordinate_ones w fits c.requires.0.accepted.closed k low
+    ap (λ (p : ℕ). ones (bit_and (w / 2 ^ k) p)) (c.multiples-places.ensures ∙ ap multiples_as_bits m-is) ∙ coordinate_ones w fits c.requires.0.accepted.closed k low
     ∙ sym (entry_coordinates w fits (suc k) low) in
-    let more : k < length (kunz_coordinates w) = omega (arith, coordinates_number w) in (
-      omega arith,
-      length-set c.loop-k.out k _ ∙ sized,
-      ap₂ (λ (o : List ℕ) (x : ℕ). set o k x) list value ∙ fronted_next (kunz_coordinates w) c.args.out.now k more c.requires.1,
-    )
+    ap₂ (λ (o : List ℕ) (x : ℕ). set o k x) c.loop-k.invariant value ∙ fronted_next (kunz_coordinates w) part k more (omega arith)
 
 pub returns : goal.returns
+unfolding fronted
 returns c =
     let w : ℕ = c.args.word in
-    let (done, sized, list) = c.loop-k.invariant in
-    let all : length (kunz_coordinates w) ≤ c.loop-k.k = omega (arith, c.requires.0.multiplicity_is, coordinates_number w) in
-    list ∙ ap (λ (t : List ℕ). fronted t c.args.out.now) (take_all c.loop-k.k (kunz_coordinates w) all)
+    let out : List ℕ = c.args.out.now in
+    let l : List ℕ = kunz_coordinates w in
+    let part : List ℕ = take (c.args.m - 1) out in
+    let whole : length part ≡ length l = length-take-le (c.args.m - 1) out (omega (arith, c.requires.0.multiplicity_is, coordinates_number w)) ∙ omega (arith, c.requires.0.multiplicity_is, coordinates_number w) in
+    let all : length l ≤ c.loop-k.k = omega arith in
+    let front : c.loop-k.entry-items ≡ l =
+    c.loop-k.invariant ∙ ap (λ (t : List ℕ). t ++ drop (length t) part) (take_all c.loop-k.k l all) ∙ ap (λ (r : List ℕ). l ++ r) (drop_of_length-le part {i = length l} (omega arith))
+    ∙ append-nil l in
+    ap₂ (λ (k : List ℕ) (n : ℕ). k ++ drop n out) front (omega (arith, c.requires.0.multiplicity_is, coordinates_number w))

@@ -1,11 +1,11 @@
 -- `listing::fresh` meets its contract: the question is that of the fresh walk. Assumes nothing.
 use Rattle.std.proofs.Common.{sym, ◌∙◌, ap}
-use Rattle.walk.specs.Answers.{begun}
+use Rattle.answers.proofs.Answers.{handed_on}
 use Rattle.listing.proofs.Pages.{unheaded, fresh_listing}
 use Rattle.listing.proofs.fresh.Goals as goal
 
-pub returns-in-Refused : goal.returns-in-Refused
-returns-in-Refused c = sym (fresh_listing _ ∙ ap unheaded (sym c.fresh-answer.ensures ∙ ap begun c.in-Refused.is))
+pub returns-in_err-walk : goal.returns-in_err-walk
+returns-in_err-walk c = handed_on _ _ c.from_residual.ensures.1 (sym (fresh_listing _ ∙ ap unheaded (sym c.in_err-walk.ensures)))
 
-pub returns-in-Given : goal.returns-in-Given
-returns-in-Given c = sym (fresh_listing _ ∙ ap unheaded (sym c.fresh-answer.ensures ∙ ap begun c.in-Given.is))
+pub returns : goal.returns
+returns c = sym (fresh_listing _ ∙ ap unheaded (sym c.in_ok-walk.ensures))

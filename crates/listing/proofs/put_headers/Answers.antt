@@ -9,25 +9,24 @@ use Rattle.listing.proofs.put_headers.Goals as goal
 
 pub loop-genus-init : goal.loop-genus-init
 unfolding run joined
-loop-genus-init c = (omega arith, omega arith, puts_nothing _ _ (omega arith))
+loop-genus-init c = (omega arith, puts_nothing _ _ (omega arith))
 
 pub put_header_of-next-requires : goal.put_header_of-next-requires
-put_header_of-next-requires c = (omega arith, omega (arith, puts_length c.loop-genus.invariant.2))
+put_header_of-next-requires c = (omega arith, omega (arith, puts_length c.loop-genus.invariant.1))
 
 pub loop-genus-preserved : goal.loop-genus-preserved
 loop-genus-preserved c =
     let now = c.loop-genus in
     let put = c.put_header_of-next.ensures in (
-      omega arith,
       omega (arith, put.next, header_of_le now.genus (omega arith)),
-      puts_as (sym (headers_next now.genus)) (puts_on now.invariant.2 put),
+      puts_as (sym (headers_next now.genus)) (puts_on now.invariant.1 put),
     )
 
 pub shape_of-out : goal.shape_of-out
-shape_of-out c = puts_length c.loop-genus.invariant.2
+shape_of-out c = puts_length c.loop-genus.invariant.1
 
 pub returns : goal.returns
 unfolding headers_to
 returns c =
     let all : c.loop-genus.genus ≡ 21 = omega arith in
-    puts_as (ap (λ (g : ℕ). joined header_of (run 0 g)) all) c.loop-genus.invariant.2
+    puts_as (ap (λ (g : ℕ). joined header_of (run 0 g)) all) c.loop-genus.invariant.1

@@ -12,15 +12,15 @@ use Rattle.semigroups.proofs.Membership.{member_more}
 use Rattle.semigroups.proofs.BitSets.{bits_from_none, bits_from_or}
 use Rattle.sums.proofs.members.Goals as goal
 
-pub loop-i-init : goal.loop-i-init
+pub loop-a-init : goal.loop-a-init
 unfolding member_of every
-loop-i-init c = bits_from_none _ _ (λ x low high. refl)
+loop-a-init c = bits_from_none _ _ (λ x low high. refl)
 
-pub loop-i-preserved : goal.loop-i-preserved
-loop-i-preserved c =
+pub loop-a-preserved : goal.loop-a-preserved
+loop-a-preserved c =
     let l = c.args.list.now in
     let first : ℕ = c.args.first in
-    let i : ℕ = c.loop-i.i in
-    ap₂ bit_or c.loop-i.invariant (c.bit_from-bits.ensures ∙ ap (λ (a : ℕ). bits_from (eqb a) first) c.wide.ensures)
+    let i : ℕ = c.loop-a.a-index in
+    ap₂ bit_or c.loop-a.invariant (c.bit_from-bits.ensures ∙ ap (λ (a : ℕ). bits_from (eqb a) first) c.from.ensures)
     ∙ bits_from_or (member_of (take i l)) (eqb (get_or l i 0)) first
     ∙ ap (λ (S : Set). bits_from S first) (sym (fun_ext (λ x. member_more l i x (omega arith))))
