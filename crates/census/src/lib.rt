@@ -119,17 +119,13 @@ fn tally(n: Node, left: u64, out: &mut [u64])
         add_one(place_of(n.word), out);
         return;
     }
-    if left == 2 {
-        if words::multiplicity_of(n.word) < n.conductor {
-            tally_grandchildren(n, out);
-            return;
-        }
+    if left == 2 && words::multiplicity_of(n.word) < n.conductor {
+        tally_grandchildren(n, out);
+        return;
     }
-    if left == 3 {
-        if n.second_element() < n.conductor {
-            tally_great_grandchildren(n, out);
-            return;
-        }
+    if left == 3 && n.second_element() < n.conductor {
+        tally_great_grandchildren(n, out);
+        return;
     }
     for low in Bits(n.first_row()) {
         tally(n.child(low.at), left - 1, out);

@@ -15,8 +15,8 @@ ghost use Rattle.nodes.specs.Branches.{branches, Offsets};
 ghost use Rattle.search.specs.Wanted.{wanted_list, find_of};
 ghost use Rattle.search.specs.Private.{with_largest_gap};
 
-use answers::{Element, Found, FoundAnswer, Offset, Refusal};
-use nodes::Node;
+use answers::{Element, Offset, Refusal};
+use nodes::{Bits, Node};
 
 // Is `gap`, which is not below the node's conductor c, a sum of two elements below c? Below 2 c the table tells, by source 001; from 2 c on no
 // number is one. Such a sum is an element of every semigroup below the node.
@@ -35,7 +35,7 @@ fn is_low_sum(n: Node, gap: u64) -> bool
 
 // Of the children of a node at the offsets that are the bits of `rest`, the one whose largest gap is `gap`: the bit at the offset of `gap`
 // decides.
-fn child_with(n: Node, rest: u64, gap: u64) -> Found
+fn child_with(n: Node, rest: u64, gap: u64) -> Option<u64>
     requires node_with_levels { NodeWithLevels 1 n }
     requires offsets { Offsets n.word rest }
     requires conductor_le_gap { (n.conductor ≤ gap) × (gap ≤ 63) }
@@ -43,20 +43,20 @@ fn child_with(n: Node, rest: u64, gap: u64) -> Found
 {
     let offset = Offset::of_element(n.conductor, Element(gap));
     if rest >> offset.0 & 1 != 1 {
-        return Found::Nothing;
+        return None;
     }
-    Found::Number(n.word + (1 << (gap - 1)))
+    Some(n.word + (1 << (gap - 1)))
 }
 
 // The first of the words `left` levels below a node, 1 or more, whose largest gap is `gap`.
 #[cycle(first_among_first_below)]
-fn first_below(n: Node, left: u64, gap: u64) -> Found
+fn first_below(n: Node, left: u64, gap: u64) -> Option<u64>
     requires node_with_levels { NodeWithLevels left n }
     requires le_left { (1 ≤ left) × (n.conductor ≤ gap) × (gap ≤ 63) }
     ensures { sought result ≡ head? (with_largest_gap gap (leaves left n.word)) }
 {
     if is_low_sum(n, gap) {
-        return Found::Nothing;
+        return None;
     }
     first_among(n, n.first_row(), left - 1, gap)
 }
@@ -64,7 +64,7 @@ fn first_below(n: Node, left: u64, gap: u64) -> Found
 // The same `left` levels below those children of a node whose offsets are the bits of `rest`. After the new gap e of a child there are `left`
 // gaps to come, so that the largest is at least e + left: where that is above `gap`, it is so for all later children too.
 #[cycle(first_among_first_below)]
-fn first_among(n: Node, rest: u64, left: u64, gap: u64) -> Found
+fn first_among(n: Node, rest: u64, left: u64, gap: u64) -> Option<u64>
     requires node_with_levels { NodeWithLevels (left + 1) n }
     requires offsets { Offsets n.word rest }
     requires conductor_le_gap { (n.conductor ≤ gap) × (gap ≤ 63) }
@@ -73,21 +73,17 @@ fn first_among(n: Node, rest: u64, left: u64, gap: u64) -> Found
     if left == 0 {
         return child_with(n, rest, gap);
     }
-    let mut bits = rest;
-    while bits != 0 {
-        let d = nodes::lowest_of(bits);
-        let at = d.at;
-        let e = Element::at_offset(n.conductor, at);
+    for low in Bits(rest) {
+        let e = Element::at_offset(n.conductor, low.at);
         if gap < e.0 + left {
-            return Found::Nothing;
+            return None;
         }
-        let found = first_below(n.child(at), left, gap);
-        if let Found::Number(_) = found {
+        let found = first_below(n.child(low.at), left, gap);
+        if found.is_some() {
             return found;
         }
-        bits = d.rest;
     }
-    Found::Nothing
+    None
 }
 
 // The node of the semigroup of 0 and all numbers from `m` on, the first of multiplicity m: no number from m to 2 m - 1 is a sum of two
@@ -105,61 +101,61 @@ fn first_node(m: u64) -> Node
 
 // The first word of a genus of at least 1 with a largest gap and a multiplicity. A semigroup of genus g has a multiplicity from 2 to g + 1
 // and a largest gap from g to 2 g - 1, which is no multiple of the multiplicity; with multiplicity g + 1 there is one.
-fn first_with(genus: u64, gap: u64, m: u64) -> Found
+fn first_with(genus: u64, gap: u64, m: u64) -> Option<u64>
     requires { (1 ≤ genus) × (genus ≤ 32) }
     ensures { sought result ≡ head? (wanted_list genus (pos gap) m) }
 {
     if m < 2 {
-        return Found::Nothing;
+        return None;
     }
     if genus + 1 < m {
-        return Found::Nothing;
+        return None;
     }
     if gap < genus {
-        return Found::Nothing;
+        return None;
     }
     if 2 * genus <= gap {
-        return Found::Nothing;
+        return None;
     }
     if gap % m == 0 {
-        return Found::Nothing;
+        return None;
     }
     let n = first_node(m);
     if genus < m {
         if gap == genus {
-            return Found::Number(n.word);
+            return Some(n.word);
         }
-        return Found::Nothing;
+        return None;
     }
     first_among(n, n.first_row() - 1, genus - m, gap)
 }
 
 // The word of genus 0 with a largest gap and a multiplicity: the word 0 has -1 and 1.
-fn of_genus_0(largest_gap: i8, multiplicity: u8) -> Found
+fn of_genus_0(largest_gap: i8, multiplicity: u8) -> Option<u64>
     ensures { sought result ≡ head? (wanted_list 0 largest_gap multiplicity) }
 {
     if largest_gap != -1 {
-        return Found::Nothing;
+        return None;
     }
     if multiplicity != 1 {
-        return Found::Nothing;
+        return None;
     }
-    Found::Number(0)
+    Some(0)
 }
 
 // The first semigroup in list order with a genus, a largest gap, which is -1 where there are no gaps, and a multiplicity, or that there is
 // none: refused above genus 32.
-pub fn find(genus: u64, largest_gap: i8, multiplicity: u8) -> FoundAnswer
+pub fn find(genus: u64, largest_gap: i8, multiplicity: u8) -> Result<Option<u64>, Refusal>
     ensures { sought_answered result ≡ find_of genus largest_gap multiplicity }
 {
     if 32 < genus {
-        return FoundAnswer::Refused(Refusal::GenusTooLarge);
+        return Err(Refusal::GenusTooLarge);
     }
     if genus == 0 {
-        return FoundAnswer::Given(of_genus_0(largest_gap, multiplicity));
+        return Ok(of_genus_0(largest_gap, multiplicity));
     }
     if largest_gap < 0 {
-        return FoundAnswer::Given(Found::Nothing);
+        return Ok(None);
     }
-    FoundAnswer::Given(first_with(genus, largest_gap as u64, multiplicity as u64))
+    Ok(first_with(genus, largest_gap as u64, multiplicity as u64))
 }

@@ -1,5 +1,5 @@
 -- The levels below a node are the measure. The loop's invariant: what is left of the row has the first word that the whole row has.
-use Prim.Native.Nat.{◌+◌, ◌*◌, ◌^◌, ◌<◌}
+use Prim.Native.Nat.{◌+◌, ◌*◌}
 use mathlib.Core.Path.{◌≡◌}
 use mathlib.Core.List.{head?}
 use Rattle.nodes.specs.Branches.{branches, Offsets}
@@ -12,10 +12,7 @@ decreases-first_among l = 2 * l.left + 1
 abbrev pub decreases-first_below : goal.decreases-first_below
 decreases-first_below l = 2 * l.left
 
-abbrev pub invariant-first_among-loop-bits : goal.invariant-first_among-loop-bits
-invariant-first_among-loop-bits l =
-    (l.bits < 2 ^ 64) × Offsets l.n.word l.bits
-    × (head? (with_largest_gap l.gap (branches l.left l.n.word l.bits)) ≡ head? (with_largest_gap l.gap (branches l.left l.n.word l.initial.bits)))
-
-abbrev pub decreases-first_among-loop-bits : goal.decreases-first_among-loop-bits
-decreases-first_among-loop-bits l = l.bits
+abbrev pub invariant-first_among-loop-low : goal.invariant-first_among-loop-low
+invariant-first_among-loop-low l =
+    Offsets l.n.word l.low-iterator.0
+    × (head? (with_largest_gap l.gap (branches l.left l.n.word l.low-iterator.0)) ≡ head? (with_largest_gap l.gap (branches l.left l.n.word l.rest)))
