@@ -3,9 +3,9 @@
 // length.
 #![tactic(auto)]
 
-ghost use Rattle.std.specs.Prelude.{◌≡◌, true, []};
+ghost use Rattle.std.specs.Prelude.{◌≡◌, []};
 ghost use Rattle.semigroups.specs.Openings.{opening_of};
-ghost use Rattle.answers.specs.Answers.{answered};
+ghost use Rattle.answers.specs.Answers.{listed};
 ghost use Rattle.words.specs.Looks.{look_of};
 ghost use Rattle.tables.specs.Answers.{table_of, child_of, grandchildren_of};
 ghost use Rattle.counts.specs.Counts.{count_of};
@@ -16,67 +16,27 @@ ghost use Rattle.sums.specs.WordFrom.{word_from_of};
 ghost use Rattle.generators.specs.Generators.{generators_of};
 ghost use Rattle.changes.specs.Changes.{addition, removal};
 ghost use Rattle.changes.specs.States.{state_of};
-ghost use Rattle.editor.specs.Answers.{said};
 ghost use Rattle.elementary.specs.Answers.{elementary_of};
 ghost use Rattle.coordinates.specs.Coordinates.{coordinates_of, word_from_coordinates_of};
 ghost use Rattle.search.specs.Wanted.{find_of};
 ghost use Rattle.census.specs.Census.{census_of};
-ghost use Rattle.interface.specs.Interface.{number_in, table_in, found_in, shortest_in, report_in, begun_in, batch_in, saved_in, written_in, editor_in, editor_from, answer_from, change_in};
-ghost use Rattle.atlas.specs.Private.{is_kept};
+ghost use Rattle.interface.specs.Interface.{number_in, table_in, found_in, shortest_in, report_in, begun_in, batch_in, saved_in, written_in, editor_in, change_in};
 
-use answers::{Element, NumberAnswer, Refusal};
+use answers::{Element, Refusal};
 use editor::Editor;
 use interface::{
     AtlasBegun, AtlasChanged, AtlasEditor, AtlasFound, AtlasMoved, AtlasNumber, AtlasReport,
     AtlasSaved, AtlasShortest, AtlasTable, AtlasWalk,
 };
-
-// Is it an answer that bytes without 0 are given: a word, or refused 8 or 9?
-fn is_kept(number: AtlasNumber) -> bool
-    ensures { result ≡ is_kept number }
-{
-    let refused = number.refused;
-    match refused {
-        0 => true,
-        8 => number.value == 0,
-        9 => number.value == 0,
-        _ => false,
-    }
-}
-
-// Such an answer, as C callers hand it over.
-fn answer_from(number: AtlasNumber) -> NumberAnswer
-    requires { is_kept number ≡ true }
-    ensures { answered result ≡ answer_from number }
-{
-    let refused = number.refused;
-    match refused {
-        0 => NumberAnswer::Given(number.value),
-        8 => NumberAnswer::Refused(Refusal::CommonDivisor),
-        _ => NumberAnswer::Refused(Refusal::TooManyGapsGenerated),
-    }
-}
-
-// A state with such an answer, as they hand it over.
-fn editor_from(editor: AtlasEditor) -> Editor
-    requires { is_kept editor.answer ≡ true }
-    ensures { said result ≡ editor_from editor }
-{
-    let bytes = editor.bytes;
-    let number = editor.answer;
-    Editor {
-        bytes,
-        length: editor.length,
-        answer: answer_from(number),
-    }
-}
+use walk::Walk;
+use windows::Window;
 
 // Genus, multiplicity, reported conductor and largest gap of a word. Questions 1, 2.
 #[unsafe(no_mangle)]
 pub extern "C" fn atlas_look(word: u64) -> AtlasReport
     ensures { result ≡ report_in (look_of word) }
 {
-    interface::report_of(words::look(word))
+    AtlasReport::from(words::look(word))
 }
 
 // The least n such that the n smallest gaps of a word, with any number of gaps, are not the gaps of a semigroup, or that there is none. No
@@ -85,7 +45,7 @@ pub extern "C" fn atlas_look(word: u64) -> AtlasReport
 pub extern "C" fn atlas_opening(word: u64) -> AtlasShortest
     ensures { result ≡ shortest_in (opening_of word) }
 {
-    interface::shortest_of(words::opening(word))
+    AtlasShortest::from(words::opening(word))
 }
 
 // The seed table of a word, and the number of generators not below the conductor, which are the 1s in row 0. Questions 1, 2.
@@ -93,7 +53,7 @@ pub extern "C" fn atlas_opening(word: u64) -> AtlasShortest
 pub extern "C" fn atlas_seed_table(word: u64) -> AtlasTable
     ensures { result ≡ table_in (table_of word) }
 {
-    interface::table_of(tables::seed_table(word))
+    AtlasTable::from(tables::seed_table(word))
 }
 
 // The word of the child without a generator. Questions 1, 2, 3, 5.
@@ -101,7 +61,7 @@ pub extern "C" fn atlas_seed_table(word: u64) -> AtlasTable
 pub extern "C" fn atlas_child(word: u64, element: u64) -> AtlasNumber
     ensures { result ≡ number_in (child_of word element) }
 {
-    interface::number_of(tables::child(word, Element(element)))
+    AtlasNumber::from(tables::child(word, Element(element)))
 }
 
 // The number of grandchildren of a word, the semigroups with two gaps more whose smallest gaps are the word's. Questions 1, 2.
@@ -109,7 +69,7 @@ pub extern "C" fn atlas_child(word: u64, element: u64) -> AtlasNumber
 pub extern "C" fn atlas_grandchildren(word: u64) -> AtlasNumber
     ensures { result ≡ number_in (grandchildren_of word) }
 {
-    interface::number_of(tables::grandchildren(word))
+    AtlasNumber::from(tables::grandchildren(word))
 }
 
 // A walk on the first semigroup of a genus. Question 3.
@@ -117,7 +77,7 @@ pub extern "C" fn atlas_grandchildren(word: u64) -> AtlasNumber
 pub extern "C" fn atlas_fresh(genus: u64) -> AtlasBegun
     ensures { result ≡ begun_in (fresh_of genus) }
 {
-    interface::begun_of(walk::fresh(genus))
+    AtlasBegun::from(walk::fresh(genus))
 }
 
 // A walk on the first semigroup of a genus with a multiplicity from the lowest to the highest. Question 3.
@@ -125,7 +85,7 @@ pub extern "C" fn atlas_fresh(genus: u64) -> AtlasBegun
 pub extern "C" fn atlas_fresh_in(genus: u64, lowest: u8, highest: u8) -> AtlasBegun
     ensures { result ≡ begun_in (fresh_in_of genus lowest highest) }
 {
-    interface::begun_of(walk::fresh_in(genus, lowest, highest))
+    AtlasBegun::from(walk::fresh_in(genus, Window { lowest, highest }))
 }
 
 // A walk on a given word. Questions 1, 2.
@@ -133,7 +93,7 @@ pub extern "C" fn atlas_fresh_in(genus: u64, lowest: u8, highest: u8) -> AtlasBe
 pub extern "C" fn atlas_start(word: u64) -> AtlasBegun
     ensures { result ≡ begun_in (start_of word) }
 {
-    interface::begun_of(walk::start(word))
+    AtlasBegun::from(walk::start(word))
 }
 
 // A walk on a given word with a multiplicity from the lowest to the highest. Questions 1, 2, 4.
@@ -141,7 +101,7 @@ pub extern "C" fn atlas_start(word: u64) -> AtlasBegun
 pub extern "C" fn atlas_start_in(word: u64, lowest: u8, highest: u8) -> AtlasBegun
     ensures { result ≡ begun_in (start_in_of word lowest highest) }
 {
-    interface::begun_of(walk::start_in(word, lowest, highest))
+    AtlasBegun::from(walk::start_in(word, Window { lowest, highest }))
 }
 
 // The next words into a lent list. Questions 3, 4; a finished mark that is neither 0 nor 1 is no walk in order.
@@ -150,15 +110,26 @@ pub extern "C" fn atlas_batch(walk: AtlasWalk, out: &mut [u64]) -> AtlasMoved
     ensures { (result ≡ (batch_in walk out.old).answer) × (out.new ≡ (batch_in walk out.old).list) }
 {
     if 32 < walk.genus {
-        return interface::unmoved_of(walk, Refusal::GenusTooLarge);
+        return AtlasMoved::unmoved(walk, Refusal::GenusTooLarge);
     }
-    if 1 < walk.finished {
-        return interface::unmoved_of(walk, Refusal::WalkOutOfOrder);
+    match Walk::try_from(walk) {
+        Err(refusal) => AtlasMoved::unmoved(walk, refusal),
+        Ok(mut moving) => {
+            let answer = walk::batch(&mut moving, out);
+            AtlasMoved::ended(moving, answer)
+        }
     }
-    let moved = walk::step(interface::walk_from(walk), out);
-    let after = moved.walk;
-    let answer = moved.answer;
-    interface::moved_of(after, answer)
+}
+
+// The job of a walk as it is handed over.
+fn job_write(walk: AtlasWalk, written: u64, out: &mut [u8]) -> Result<u64, Refusal>
+    ensures { listed result out.new ≡ written_in walk written out.old }
+{
+    if 32 < walk.genus {
+        return Err(Refusal::GenusTooLarge);
+    }
+    let walk = Walk::try_from(walk)?;
+    jobs::write(walk, written, out)
 }
 
 // A walk and a number written as a job into a lent list, and the job's length. Questions 3, 4, 6; a finished mark that is neither 0 nor 1 is no
@@ -167,13 +138,7 @@ pub extern "C" fn atlas_batch(walk: AtlasWalk, out: &mut [u64]) -> AtlasMoved
 pub extern "C" fn atlas_job_write(walk: AtlasWalk, written: u64, out: &mut [u8]) -> AtlasNumber
     ensures { (result ≡ number_in (written_in walk written out.old).answer) × (out.new ≡ (written_in walk written out.old).list) }
 {
-    if 32 < walk.genus {
-        return interface::number_of(NumberAnswer::Refused(Refusal::GenusTooLarge));
-    }
-    if 1 < walk.finished {
-        return interface::number_of(NumberAnswer::Refused(Refusal::WalkOutOfOrder));
-    }
-    interface::number_of(jobs::write(interface::walk_from(walk), written, out))
+    AtlasNumber::from(job_write(walk, written, out))
 }
 
 // The walk and the number written that a job of version 1 or 2 keeps. Questions 18, 17, 18, 19, 3, 4.
@@ -181,7 +146,7 @@ pub extern "C" fn atlas_job_write(walk: AtlasWalk, written: u64, out: &mut [u8])
 pub extern "C" fn atlas_job_read(job: &[u8]) -> AtlasSaved
     ensures { result ≡ saved_in (read_of 2 job.now) }
 {
-    interface::saved_of(jobs::read(job))
+    AtlasSaved::from(jobs::read(job))
 }
 
 // The number of semigroups of a genus whose smallest gaps are exactly the word's. Questions 1, 2, 3.
@@ -189,7 +154,7 @@ pub extern "C" fn atlas_job_read(job: &[u8]) -> AtlasSaved
 pub extern "C" fn atlas_count(word: u64, genus: u64) -> AtlasNumber
     ensures { result ≡ number_in (count_of word genus) }
 {
-    interface::number_of(counts::count(word, genus))
+    AtlasNumber::from(counts::count(word, genus))
 }
 
 // The first semigroup of a genus whose smallest gaps are exactly the word's gaps, or that there is none. Questions 1, 2, 3.
@@ -197,7 +162,7 @@ pub extern "C" fn atlas_count(word: u64, genus: u64) -> AtlasNumber
 pub extern "C" fn atlas_first_descendant(word: u64, genus: u64) -> AtlasFound
     ensures { result ≡ found_in (first_descendant_of word genus) }
 {
-    interface::found_of(descendants::first_descendant(word, genus))
+    AtlasFound::from(descendants::first_descendant(word, genus))
 }
 
 // The number of elementary semigroups of a genus with a largest gap. Question 3.
@@ -205,7 +170,7 @@ pub extern "C" fn atlas_first_descendant(word: u64, genus: u64) -> AtlasFound
 pub extern "C" fn atlas_elementary(frobenius: u64, genus: u64) -> AtlasNumber
     ensures { result ≡ number_in (elementary_of frobenius genus) }
 {
-    interface::number_of(elementary::elementary(frobenius, genus))
+    AtlasNumber::from(elementary::elementary(frobenius, genus))
 }
 
 // The first word of a genus with a largest gap, which is -1 for the word 0, and a multiplicity, or that there is none. Question 3.
@@ -213,7 +178,7 @@ pub extern "C" fn atlas_elementary(frobenius: u64, genus: u64) -> AtlasNumber
 pub extern "C" fn atlas_find(genus: u64, largest_gap: i8, multiplicity: u8) -> AtlasFound
     ensures { result ≡ found_in (find_of genus largest_gap multiplicity) }
 {
-    interface::found_of(search::find(genus, largest_gap, multiplicity))
+    AtlasFound::from(search::find(genus, largest_gap, multiplicity))
 }
 
 // The minimal generators of a word in rising order into a lent list, and their number. Questions 1, 2, 6.
@@ -221,7 +186,7 @@ pub extern "C" fn atlas_find(genus: u64, largest_gap: i8, multiplicity: u8) -> A
 pub extern "C" fn atlas_generators(word: u64, out: &mut [u8]) -> AtlasNumber
     ensures { (result ≡ number_in (generators_of word out.old).answer) × (out.new ≡ (generators_of word out.old).list) }
 {
-    interface::number_of(generators::generators(word, out))
+    AtlasNumber::from(generators::generators(word, out))
 }
 
 // The word of all sums of the given generators. Questions 7, 8, 9.
@@ -229,7 +194,7 @@ pub extern "C" fn atlas_generators(word: u64, out: &mut [u8]) -> AtlasNumber
 pub extern "C" fn atlas_word_from(list: &[u8]) -> AtlasNumber
     ensures { result ≡ number_in (word_from_of list.now) }
 {
-    interface::number_of(sums::word_from(list))
+    AtlasNumber::from(sums::word_from(list))
 }
 
 // The Kunz coordinates of a word into a lent list, and their number, one less than the multiplicity. Questions 1, 2, 6.
@@ -237,7 +202,7 @@ pub extern "C" fn atlas_word_from(list: &[u8]) -> AtlasNumber
 pub extern "C" fn atlas_kunz(word: u64, out: &mut [u8]) -> AtlasNumber
     ensures { (result ≡ number_in (coordinates_of word out.old).answer) × (out.new ≡ (coordinates_of word out.old).list) }
 {
-    interface::number_of(kunz::coordinates(word, out))
+    AtlasNumber::from(kunz::coordinates(word, out))
 }
 
 // The word of a list of Kunz coordinates. Questions 11, 12, 13.
@@ -245,7 +210,7 @@ pub extern "C" fn atlas_kunz(word: u64, out: &mut [u8]) -> AtlasNumber
 pub extern "C" fn atlas_word_from_kunz(list: &[u8]) -> AtlasNumber
     ensures { result ≡ number_in (word_from_coordinates_of list.now) }
 {
-    interface::number_of(kunz::word_from_coordinates(list))
+    AtlasNumber::from(kunz::word_from_coordinates(list))
 }
 
 // The census of a genus into a lent list, and the sum of all reported conductors. Questions 3, 6.
@@ -253,7 +218,7 @@ pub extern "C" fn atlas_word_from_kunz(list: &[u8]) -> AtlasNumber
 pub extern "C" fn atlas_census(genus: u64, out: &mut [u64]) -> AtlasNumber
     ensures { (result ≡ number_in (census_of genus out.old).answer) × (out.new ≡ (census_of genus out.old).list) }
 {
-    interface::number_of(census::census(genus, out))
+    AtlasNumber::from(census::census(genus, out))
 }
 
 // A list of generators that changes, at the start: no byte is held. No question.
@@ -261,7 +226,7 @@ pub extern "C" fn atlas_census(genus: u64, out: &mut [u64]) -> AtlasNumber
 pub extern "C" fn atlas_editor_empty() -> AtlasEditor
     ensures { result ≡ editor_in (state_of []) }
 {
-    interface::editor_of(editor::empty())
+    AtlasEditor::from(editor::empty())
 }
 
 // A byte is added behind those that are held. Questions 14, 7, 15; an answer that no bytes without 0 are given is none that the bytes give.
@@ -269,11 +234,13 @@ pub extern "C" fn atlas_editor_empty() -> AtlasEditor
 pub extern "C" fn atlas_editor_add(editor: AtlasEditor, byte: u8) -> AtlasChanged
     ensures { result ≡ change_in (addition byte) editor }
 {
-    let number = editor.answer;
-    if !is_kept(number) {
-        return interface::unchanged_of(editor, Refusal::EditorOutOfOrder);
+    match Editor::try_from(editor) {
+        Err(refusal) => AtlasChanged::unchanged(editor, refusal),
+        Ok(mut after) => {
+            let answer = editor::add(&mut after, byte);
+            AtlasChanged::made(editor, after, answer)
+        }
     }
-    interface::changed_of(editor, editor::add(editor_from(editor), byte))
 }
 
 // The first byte that is equal is removed. Questions 14, 16; 14 as for an addition.
@@ -281,9 +248,11 @@ pub extern "C" fn atlas_editor_add(editor: AtlasEditor, byte: u8) -> AtlasChange
 pub extern "C" fn atlas_editor_remove(editor: AtlasEditor, byte: u8) -> AtlasChanged
     ensures { result ≡ change_in (removal byte) editor }
 {
-    let number = editor.answer;
-    if !is_kept(number) {
-        return interface::unchanged_of(editor, Refusal::EditorOutOfOrder);
+    match Editor::try_from(editor) {
+        Err(refusal) => AtlasChanged::unchanged(editor, refusal),
+        Ok(mut after) => {
+            let answer = editor::remove(&mut after, byte);
+            AtlasChanged::made(editor, after, answer)
+        }
     }
-    interface::changed_of(editor, editor::remove(editor_from(editor), byte))
 }
