@@ -13,6 +13,10 @@ ghost use Rattle.nodes.specs.RowCounts.{count_by_rows, grandchildren_at, great_c
 
 use answers::{Element, Index, Offset};
 
+mod subtree;
+
+pub use subtree::Subtree;
+
 // A semigroup under way: its word, its seed table and its conductor, which is that of source 000.
 #[derive(Clone, Copy)]
 pub struct Node {
