@@ -1,69 +1,53 @@
 // The number of semigroups of a genus whose smallest gaps are exactly a word's, by the tree.
 #![tactic(auto)]
 
-ghost use Rattle.std.specs.Prelude.{◌+◌, ◌≤◌, ◌<◌, ◌≡◌, length};
+ghost use Rattle.std.specs.Prelude.{◌-◌, ◌≤◌, ◌≡◌, length};
 ghost use Rattle.semigroups.specs.Words.{conductor};
 ghost use Rattle.semigroups.specs.Tree.{leaves};
 ghost use Rattle.answers.specs.Answers.{answered};
 ghost use Rattle.nodes.specs.Nodes.{first_row};
-ghost use Rattle.nodes.specs.Levels.{NodeWithLevels};
 ghost use Rattle.nodes.specs.Branches.{branches};
 ghost use Rattle.nodes.specs.NewGaps.{Upper};
 ghost use Rattle.counts.specs.Counts.{count_of};
 
 use answers::Refusal;
-use nodes::Node;
+use nodes::Subtree;
 
-// How many words there are `left` levels below a node: one level below it, as many as the node says; two levels below a node whose conductor
-// is above its multiplicity, as many as rows 0 and 1 tell; three levels below a node whose conductor is above its second positive element, as
-// many as rows 0, 1 and 2 tell.
+// How many words there are at the end of a part of the tree: one level below its node, as many as the node says; two levels below a node whose
+// conductor is above its multiplicity, as many as rows 0 and 1 tell; three levels below a node whose conductor is above its second positive
+// element, as many as rows 0, 1 and 2 tell.
 #[cycle(count_node_sum_from)]
-fn count_node(n: Node, left: u64) -> u64
-    requires { NodeWithLevels left n }
-    ensures { result ≡ length (leaves left n.word) }
+fn count_node(tree: Subtree) -> u64
+    ensures { result ≡ length (leaves tree.left tree.node.word) }
 {
-    if left == 0 {
-        return 1;
+    let n = tree.node;
+    match tree.left {
+        0 => 1,
+        1 => n.generators(),
+        2 if words::multiplicity_of(n.word) < n.conductor => n.grandchildren_by_rows(),
+        3 if n.second_element() < n.conductor => n.great_grandchildren_by_rows(),
+        _ => sum_from(tree, n.first_row()),
     }
-    if left == 1 {
-        return n.generators();
-    }
-    if left == 2 {
-        if words::multiplicity_of(n.word) < n.conductor {
-            return n.grandchildren_by_rows();
-        }
-    }
-    if left == 3 {
-        if n.second_element() < n.conductor {
-            return n.great_grandchildren_by_rows();
-        }
-    }
-    sum_from(n.word, n.table, n.conductor, n.first_row(), left - 1)
 }
 
-// How many there are `left` levels below those children of a node, given by its parts, whose offsets are the bits of `row`, those of row 0 from one
-// on: the sum from a generator on is that child's count plus the sum from the next. A child without generators has none, and is not made.
+// How many there are below those children of its node whose offsets are the bits of `row`, those of row 0 from one on: the sum from a generator on
+// is that child's count plus the sum from the next. A child without generators has none, and is not made.
 #[cycle(count_node_sum_from)]
-fn sum_from(word: u64, table: u64, c: u64, row: u64, left: u64) -> u64
-    requires le_left { 1 ≤ left }
-    requires node_with_levels { NodeWithLevels (left + 1) record { word = word; table = table; conductor = c } }
-    requires upper { Upper (first_row record { word = word; table = table; conductor = c }) row }
-    ensures { result ≡ length (branches left word row) }
+fn sum_from(tree: Subtree, row: u64) -> u64
+    requires left { 2 ≤ tree.left }
+    requires upper { Upper (first_row tree.node) row }
+    ensures { result ≡ length (branches (tree.left - 1) tree.node.word row) }
 {
     if row == 0 {
         return 0;
     }
     let low = nodes::lowest_of(row);
-    let n = Node {
-        word,
-        table,
-        conductor: c,
+    let own = if tree.node.is_childless_at(low) {
+        0
+    } else {
+        count_node(tree.child(low.at))
     };
-    let mut own = 0;
-    if !n.is_childless_at(low) {
-        own = count_node(n.child(low.at), left);
-    }
-    own + sum_from(word, table, c, low.rest, left)
+    own + sum_from(tree, low.rest)
 }
 
 // The number of semigroups of a genus whose smallest gaps are exactly the word's gaps: refused where the word is, and above genus 32.
@@ -78,5 +62,8 @@ pub fn count(word: u64, genus: u64) -> Result<u64, Refusal>
     if genus < own {
         return Ok(0);
     }
-    Ok(count_node(n, genus - own))
+    Ok(count_node(Subtree {
+        node: n,
+        left: genus - own,
+    }))
 }

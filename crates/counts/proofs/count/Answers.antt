@@ -25,10 +25,11 @@ returns-then-genus-gt32 c = sym (count_refused _ _ (accepted (goal.at.returns-th
 pub returns-then-genus-own : goal.returns-then-genus-own
 returns-then-genus-own c = sym (count_is_0_below _ _ (accepted (goal.at.returns-then-genus-own c).In_ok-n).0 (omega (arith, c.genus_of-own.ensures)))
 
-pub count_node-requires : goal.count_node-requires
-count_node-requires c =
-    let at = (goal.at.count_node-requires c).In_ok-n in
-    rw ((accepted at).1, c.genus_of-own.ensures) (accepted_levels _ _ c.ranges.word.fits (accepted at).0 (omega (arith, c.genus_of-own.ensures)))
+pub invariant_of-count_node : goal.invariant_of-count_node
+invariant_of-count_node c =
+    let at = (goal.at.invariant_of-count_node c).In_ok-n in
+    let levels = accepted_levels _ _ c.ranges.word.fits (accepted at).0 (omega (arith, c.genus_of-own.ensures)) in
+    record { levels = rw ((accepted at).1, c.genus_of-own.ensures) levels }
 
 pub returns-in_err-n : goal.returns-in_err-n
 unfolding count_of node_answer
