@@ -1,5 +1,5 @@
 // A semigroup under way, which carries its word, seed table and conductor: its child, the rows of its table, and the numbers of its grandchildren
-// and great-grandchildren.
+// and great-grandchildren; and the offsets that are the bits of a number, one by one.
 #![tactic(auto)]
 
 ghost use Rattle.std.specs.Prelude.{◌≡◌, ◌-◌, ◌^◌, ◌<◌, ◌≤◌, count_ones, MatchOption};
