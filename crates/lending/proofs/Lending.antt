@@ -153,15 +153,8 @@ unfolding with_each
 with_none w = ap (map (λ i. (w + 2 ^ i) % 2 ^ 64)) positions_zero
 
 -- i is the lowest of the bits, and rest has the others: the word with i comes first
-module _ (w : ℕ) {bits i rest : ℕ} (low : TakenOff bits i rest) where
-  pub with_first : with_each w bits ≡ (w + (bits - rest)) % 2 ^ 64 ∷ with_each w rest
-  unfolding with_each
-  with_first =
-      ap (map (λ i. (w + 2 ^ i) % 2 ^ 64)) low.first
-      ∙ ap (λ (e : ℕ). (w + e) % 2 ^ 64 ∷ map (λ i. (w + 2 ^ i) % 2 ^ 64) (positions rest)) (sym low.value)
-
-  -- to put it, and then those of the others, is to put all
-  pub put_first : (o : List ℕ) (at : ℕ) → at < length o
-      → put_all (with_each w bits) (o, Ok at) ≡ put_all (with_each w rest) (set o at ((w + (bits - rest)) % 2 ^ 64), Ok (at + 1))
-  unfolding put_all
-  put_first o at h = ap (λ (l : List ℕ). put_all l (o, Ok at)) with_first ∙ ap (put_all (with_each w rest)) (put_room ((w + (bits - rest)) % 2 ^ 64) o at h)
+pub with_first : (w : ℕ) {bits i rest : ℕ} → TakenOff bits i rest → with_each w bits ≡ (w + (bits - rest)) % 2 ^ 64 ∷ with_each w rest
+unfolding with_each
+with_first w {rest = rest} low =
+    ap (map (λ i. (w + 2 ^ i) % 2 ^ 64)) low.first
+    ∙ ap (λ (e : ℕ). (w + e) % 2 ^ 64 ∷ map (λ i. (w + 2 ^ i) % 2 ^ 64) (positions rest)) (sym low.value)

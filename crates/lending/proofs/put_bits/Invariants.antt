@@ -1,6 +1,6 @@
 use Rattle.lending.specs.Lending.{with_each}
 use Rattle.lending.proofs.Lending.{Putting}
-use Rattle.lending.proofs.put_while_room.Given as goal
+use Rattle.lending.proofs.put_bits.Given as goal
 
 abbrev pub invariant-loop-rest : goal.invariant-loop-rest
 invariant-loop-rest l = Putting (with_each l.word) l.initial.rest l.initial.out l.initial.at l.rest l.out l.at
