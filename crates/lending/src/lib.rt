@@ -4,6 +4,8 @@
 ghost use Rattle.std.specs.Prelude.{◌≡◌, [], ◌∷◌, Ok};
 ghost use Rattle.lending.specs.Lending.{put_all, with_each};
 
+use nodes::Bits;
+
 // The list is full: the word that found no room.
 #[derive(Clone, Copy, Debug, PartialEq, Eq)]
 pub struct NoRoom {
@@ -26,12 +28,9 @@ pub fn put(word: u64, at: usize, out: &mut [u64]) -> Result<usize, NoRoom>
 pub fn put_bits(word: u64, bits: u64, from: usize, out: &mut [u64]) -> Result<usize, NoRoom>
     ensures { (out.new, result) ≡ put_all (with_each word bits) (out.old, Ok from) }
 {
-    let mut rest = bits;
     let mut at = from;
-    while rest != 0 {
-        let low = nodes::lowest_of(rest);
-        at = put(word.wrapping_add(rest - low.rest), at, out)?;
-        rest = low.rest;
+    for low in Bits(bits) {
+        at = put(word.wrapping_add(1 << low.at.0), at, out)?;
     }
     Ok(at)
 }
