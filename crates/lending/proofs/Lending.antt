@@ -1,12 +1,11 @@
 -- Words put into a lent list: one after the other, and what became of the list when all were put. Assumes nothing.
-use Rattle.std.proofs.Common.{◌≡◌, ℕ, zero, suc, ◌+◌, ◌-◌, ◌%◌, ◌^◌, ◌<◌, ◌≤◌, min, cond, List, [], ◌∷◌, ◌++◌, map, length, get_or, take, drop, set, sym, refl, ap, ◌∙◌, append_assoc, add-zero, zero-add, add-one, arith, length-append, length-set, le-ltb, lt-ltb}
+use Rattle.std.proofs.Common.{◌≡◌, ℕ, zero, suc, ◌+◌, ◌%◌, ◌^◌, ◌<◌, ◌≤◌, min, cond, List, [], ◌∷◌, ◌++◌, map, length, get_or, take, drop, set, sym, refl, ap, ◌∙◌, append_assoc, add-zero, zero-add, add-one, arith, length-append, length-set, le-ltb, lt-ltb}
 use Rattle.std.specs.Prelude.{Result, Ok, Err, IsErrAnd}
 use mathlib.Core.List.{head?}
 use mathlib.Core.Option as O
 use native.Mathlib.Decide.{dec_lt}
 use lib.Seq.{set-append_seam}
 use Rattle.semigroups.specs.Lists.{none}
-use Rattle.semigroups.specs.Positions.{positions}
 use Rattle.semigroups.proofs.StandingBits.{positions_zero}
 use Rattle.nodes.proofs.Branches.{TakenOff}
 use Rattle.lending.specs.Lending.{Lent, put_one, put_all, with_each}
@@ -153,15 +152,6 @@ unfolding with_each
 with_none w = ap (map (λ i. (w + 2 ^ i) % 2 ^ 64)) positions_zero
 
 -- i is the lowest of the bits, and rest has the others: the word with i comes first
-module _ (w : ℕ) {bits i rest : ℕ} (low : TakenOff bits i rest) where
-  pub with_first : with_each w bits ≡ (w + (bits - rest)) % 2 ^ 64 ∷ with_each w rest
-  unfolding with_each
-  with_first =
-      ap (map (λ i. (w + 2 ^ i) % 2 ^ 64)) low.first
-      ∙ ap (λ (e : ℕ). (w + e) % 2 ^ 64 ∷ map (λ i. (w + 2 ^ i) % 2 ^ 64) (positions rest)) (sym low.value)
-
-  -- to put it, and then those of the others, is to put all
-  pub put_first : (o : List ℕ) (at : ℕ) → at < length o
-      → put_all (with_each w bits) (o, Ok at) ≡ put_all (with_each w rest) (set o at ((w + (bits - rest)) % 2 ^ 64), Ok (at + 1))
-  unfolding put_all
-  put_first o at h = ap (λ (l : List ℕ). put_all l (o, Ok at)) with_first ∙ ap (put_all (with_each w rest)) (put_room ((w + (bits - rest)) % 2 ^ 64) o at h)
+pub with_first : (w : ℕ) {bits i rest : ℕ} → TakenOff bits i rest → with_each w bits ≡ (w + 2 ^ i) % 2 ^ 64 ∷ with_each w rest
+unfolding with_each
+with_first w low = ap (map (λ i. (w + 2 ^ i) % 2 ^ 64)) low.first
