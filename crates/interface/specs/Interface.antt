@@ -1,6 +1,6 @@
 -- Answers as the structs that C callers get: of a call that can be refused the number of the refusal first, 0 for an answer, then the values,
 -- 0 where refused. Assumes nothing: these are definitions.
-use Rattle.std.specs.Prelude.{◌≡◌, Result, Ok, Err, ℕ, Bool, true, false, cond, ◌||◌, List, [], ◌∷◌, eqb, leb, pos}
+use Rattle.std.specs.Prelude.{◌≡◌, Result, MatchResult, ℕ, Bool, true, false, cond, ◌||◌, List, [], ◌∷◌, eqb, leb, pos}
 use Rattle.std.proofs.Math.Option.{Option, none, some}
 use Rattle.answers.specs.Answers.{Answer, refused, given, ask, ListAnswer, unchanged}
 use Rattle.answers.specs.declared.Refusal.{Refusal}
@@ -73,7 +73,7 @@ walk_from w = record { genus = w.genus; word = w.word; window = record { lowest 
 
 -- a walk as they hand it over: a finished mark that is neither 0 nor 1 is a walk out of order
 abbrev pub HandedWalk : AtlasWalk → Result Walk Refusal → Type 0
-HandedWalk w r = r ≡ cond (leb w.finished 1) (Ok (walk_from w)) (Err WalkOutOfOrder)
+HandedWalk w r = MatchResult r (λ k. (leb w.finished 1 ≡ true) × (k ≡ walk_from w)) (λ e. (leb w.finished 1 ≡ false) × (e ≡ WalkOutOfOrder))
 
 -- what they get where there is no walk
 abbrev pub no_walk : AtlasWalk
