@@ -3,150 +3,87 @@
 // lemma 3.1, the rest computed apart from the plain definitions. The marked cases are proved: proofs/Marked.antt.
 #![tactic(auto)]
 
-use answers::{Element, Found, FoundAnswer, NumberAnswer, Refusal};
+use answers::{Element, Refusal};
+use console::{write_answer, write_refused};
 use std::io;
-use tables::TableAnswer;
-use walk::{BatchAnswer, Walk, WalkAnswer};
-use words::{LookAnswer, Report};
-
-fn text(rt: &impl Print, bytes: &[u8]) -> io::Result<()> {
-    rt.write_all(bytes)
-}
-
-// A blank and a number.
-fn field(rt: &impl Print, n: u64) -> io::Result<()> {
-    text(rt, b" ")?;
-    rt.print(n)
-}
-
-// A blank and a signed number: of a negative one, the sign and one more than its distance from -1.
-fn signed_field(rt: &impl Print, n: i64) -> io::Result<()> {
-    if n < 0 {
-        text(rt, b" -")?;
-        rt.print((-1 - n) as u64 + 1)?;
-    } else {
-        field(rt, n as u64)?;
-    }
-    Ok(())
-}
-
-// A signed byte as a signed number of 64 bits.
-fn wide(n: i8) -> i64 {
-    n as i64
-}
-
-fn end(rt: &impl Print) -> io::Result<()> {
-    text(rt, b"\n")
-}
-
-// The number of a refusal.
-fn refusal(rt: &impl Print, r: Refusal) -> io::Result<()> {
-    text(rt, b" refused")?;
-    field(rt, r.number())
-}
-
-// A number, or the number of a refusal.
-fn answer(rt: &impl Print, a: NumberAnswer) -> io::Result<()> {
-    match a {
-        NumberAnswer::Refused(r) => refusal(rt, r)?,
-        NumberAnswer::Given(n) => field(rt, n)?,
-    }
-    Ok(())
-}
+use walk::Walk;
+use windows::Window;
+use words::Report;
 
 // Genus, multiplicity, reported conductor and largest gap.
-fn fields_of(rt: &impl Print, report: Report) -> io::Result<()> {
-    field(rt, report.genus)?;
-    field(rt, report.multiplicity)?;
-    field(rt, report.conductor)?;
-    signed_field(rt, report.largest_gap)
+fn write_report(rt: &impl Print, report: Report) -> io::Result<()> {
+    print!(rt; " {} {} {} {}", report.genus, report.multiplicity, report.conductor, report.largest_gap)
 }
 
 // A number that was looked for, or that there is none.
-fn found_number(rt: &impl Print, f: Found) -> io::Result<()> {
-    match f {
-        Found::Number(n) => field(rt, n)?,
-        Found::Nothing => text(rt, b" none")?,
+fn write_number_or_none(rt: &impl Print, number: Option<u64>) -> io::Result<()> {
+    match number {
+        Some(n) => print!(rt; " {n}"),
+        None => print!(rt; " none"),
     }
-    Ok(())
+}
+
+// What a call looked for, that there is none, or the number of a refusal.
+fn write_found(rt: &impl Print, answer: Result<Option<u64>, Refusal>) -> io::Result<()> {
+    match answer {
+        Ok(number) => write_number_or_none(rt, number),
+        Err(refusal) => write_refused(rt, refusal),
+    }
 }
 
 fn show_look(rt: &impl Print, word: u64) -> io::Result<()> {
-    text(rt, b"look")?;
-    field(rt, word)?;
-    text(rt, b":")?;
-    let a = words::look(word);
-    match a {
-        LookAnswer::Refused(r) => refusal(rt, r)?,
-        LookAnswer::Given(report) => fields_of(rt, report)?,
+    print!(rt; "look {word}:")?;
+    match words::look(word) {
+        Ok(report) => write_report(rt, report)?,
+        Err(refusal) => write_refused(rt, refusal)?,
     }
-    end(rt)
+    println!(rt;)
 }
 
 // What is told of a word, accepted or not.
 fn show_told(rt: &impl Print, word: u64) -> io::Result<()> {
-    text(rt, b"told of")?;
-    field(rt, word)?;
-    text(rt, b":")?;
-    fields_of(rt, words::tell(word))?;
-    end(rt)
+    print!(rt; "told of {word}:")?;
+    write_report(rt, words::tell(word))?;
+    println!(rt;)
 }
 
 // Conductor and multiplicity of a word, accepted or not.
 fn show_both(rt: &impl Print, word: u64) -> io::Result<()> {
-    text(rt, b"conductor and multiplicity")?;
-    field(rt, word)?;
-    text(rt, b":")?;
     let both = words::conductor_and_multiplicity(word);
-    field(rt, both.conductor)?;
-    field(rt, both.multiplicity)?;
-    end(rt)
+    println!(rt; "conductor and multiplicity {word}: {} {}", both.conductor, both.multiplicity)
 }
 
 // How many gaps the shortest impossible opening of a word has.
 fn show_opening(rt: &impl Print, word: u64) -> io::Result<()> {
-    text(rt, b"opening")?;
-    field(rt, word)?;
-    text(rt, b":")?;
-    found_number(rt, words::opening(word))?;
-    end(rt)
+    print!(rt; "opening {word}:")?;
+    write_number_or_none(rt, words::opening(word))?;
+    println!(rt;)
 }
 
 // A seed table and the number of 1s in its row 0, or the number of a refusal.
-fn table(rt: &impl Print, word: u64) -> io::Result<()> {
-    let a = tables::seed_table(word);
-    match a {
-        TableAnswer::Refused(r) => refusal(rt, r)?,
-        TableAnswer::Given(given) => {
-            field(rt, given.table)?;
-            field(rt, given.generators)?;
-        }
+fn write_table(rt: &impl Print, word: u64) -> io::Result<()> {
+    match tables::seed_table(word) {
+        Ok(given) => print!(rt; " {} {}", given.table, given.generators),
+        Err(refusal) => write_refused(rt, refusal),
     }
-    Ok(())
 }
 
 fn show_table(rt: &impl Print, word: u64) -> io::Result<()> {
-    text(rt, b"seed table")?;
-    field(rt, word)?;
-    text(rt, b":")?;
-    table(rt, word)?;
-    end(rt)
+    print!(rt; "seed table {word}:")?;
+    write_table(rt, word)?;
+    println!(rt;)
 }
 
 // The child at an element, and its table.
 fn show_child(rt: &impl Print, word: u64, element: u64) -> io::Result<()> {
-    text(rt, b"child")?;
-    field(rt, word)?;
-    text(rt, b" without")?;
-    field(rt, element)?;
-    text(rt, b":")?;
-    let a = tables::child(word, Element(element));
-    answer(rt, a)?;
-    if let NumberAnswer::Given(w) = a {
-        text(rt, b" table")?;
-        table(rt, w)?;
+    print!(rt; "child {word} without {element}:")?;
+    let answer = tables::child(word, Element(element));
+    write_answer(rt, answer)?;
+    if let Ok(child) = answer {
+        print!(rt; " table")?;
+        write_table(rt, child)?;
     }
-    end(rt)
+    println!(rt;)
 }
 
 // 000, examples 1.4 and 2.3: the semigroup {0, 5, 8, ..} and its four descendants.
@@ -241,52 +178,41 @@ fn ends_of_range(rt: &impl Print) -> io::Result<()> {
 
 // The next words of a walk, at most eight, by batches of one, and its mark where none are left.
 fn show_words(rt: &impl Print, first: Walk) -> io::Result<()> {
-    let mut at = first;
-    for _ in 0..8u64 {
+    let mut walk = first;
+    for _ in 0..8 {
         let mut list = [0u64; 1];
-        let moved = walk::step(at, &mut list);
-        let report = moved.answer;
-        let BatchAnswer::Given(written) = report else {
+        let Ok(written) = walk::batch(&mut walk, &mut list) else {
             return Ok(());
         };
         if written.count == 1 {
-            field(rt, list[0])?;
+            print!(rt; " {}", list[0])?;
         }
         if written.finished {
-            text(rt, b" finished")?;
-            return Ok(());
+            return print!(rt; " finished");
         }
-        at = moved.walk;
     }
     Ok(())
 }
 
 // The first words of the walk that a call began in a window.
-fn show_begun(rt: &impl Print, begun: WalkAnswer) -> io::Result<()> {
-    text(rt, b":")?;
+fn show_begun(rt: &impl Print, begun: Result<Walk, Refusal>) -> io::Result<()> {
     match begun {
-        WalkAnswer::Refused(r) => refusal(rt, r)?,
-        WalkAnswer::Given(first) => show_words(rt, first)?,
+        Ok(first) => show_words(rt, first)?,
+        Err(refusal) => write_refused(rt, refusal)?,
     }
-    end(rt)
+    println!(rt;)
 }
 
 // A fresh walk in a window.
 fn show_window(rt: &impl Print, genus: u64, lowest: u8, highest: u8) -> io::Result<()> {
-    text(rt, b"window of genus")?;
-    field(rt, genus)?;
-    field(rt, lowest as u64)?;
-    field(rt, highest as u64)?;
-    show_begun(rt, walk::fresh_in(genus, lowest, highest))
+    print!(rt; "window of genus {genus} {lowest} {highest}:")?;
+    show_begun(rt, walk::fresh_in(genus, Window { lowest, highest }))
 }
 
 // A walk that starts at a word.
 fn show_start(rt: &impl Print, word: u64, lowest: u8, highest: u8) -> io::Result<()> {
-    text(rt, b"start at")?;
-    field(rt, word)?;
-    field(rt, lowest as u64)?;
-    field(rt, highest as u64)?;
-    show_begun(rt, walk::start_in(word, lowest, highest))
+    print!(rt; "start at {word} {lowest} {highest}:")?;
+    show_begun(rt, walk::start_in(word, Window { lowest, highest }))
 }
 
 // Windows of genus 4, their ends and empty ones, and of genus 32.
@@ -309,24 +235,11 @@ fn windows(rt: &impl Print) -> io::Result<()> {
     show_start(rt, 13, 4, 3)
 }
 
-// What a call looked for, that there is none, or the number of a refusal.
-fn found(rt: &impl Print, a: FoundAnswer) -> io::Result<()> {
-    match a {
-        FoundAnswer::Refused(r) => refusal(rt, r)?,
-        FoundAnswer::Given(f) => found_number(rt, f)?,
-    }
-    Ok(())
-}
-
 // The first word of a genus with a largest gap and a multiplicity.
 fn show_find(rt: &impl Print, genus: u64, largest_gap: i8, multiplicity: u8) -> io::Result<()> {
-    text(rt, b"find")?;
-    field(rt, genus)?;
-    signed_field(rt, wide(largest_gap))?;
-    field(rt, multiplicity as u64)?;
-    text(rt, b":")?;
-    found(rt, search::find(genus, largest_gap, multiplicity))?;
-    end(rt)
+    print!(rt; "find {genus} {largest_gap} {multiplicity}:")?;
+    write_found(rt, search::find(genus, largest_gap, multiplicity))?;
+    println!(rt;)
 }
 
 // Searches for the only semigroup with the numbers, for the first of several, and where there is none, and refused ones.
@@ -351,11 +264,9 @@ fn searches(rt: &impl Print) -> io::Result<()> {
 }
 
 fn show_grandchildren(rt: &impl Print, word: u64) -> io::Result<()> {
-    text(rt, b"grandchildren")?;
-    field(rt, word)?;
-    text(rt, b":")?;
-    answer(rt, tables::grandchildren(word))?;
-    end(rt)
+    print!(rt; "grandchildren {word}:")?;
+    write_answer(rt, tables::grandchildren(word))?;
+    println!(rt;)
 }
 
 // Grandchildren by the first two rows, of words that have one row, of words of genus 31 and 32, and of refused words.
@@ -381,10 +292,9 @@ fn grandchildren(rt: &impl Print) -> io::Result<()> {
 
 // The elements below 128 at which a word has a child.
 fn elements_with_a_child(rt: &impl Print, word: u64) -> io::Result<()> {
-    for e in 0..128u64 {
-        let a = tables::child(word, Element(e));
-        if let NumberAnswer::Given(_) = a {
-            field(rt, e)?;
+    for element in 0..128 {
+        if tables::child(word, Element(element)).is_ok() {
+            print!(rt; " {element}")?;
         }
     }
     Ok(())
@@ -392,13 +302,11 @@ fn elements_with_a_child(rt: &impl Print, word: u64) -> io::Result<()> {
 
 // The table of a word with its number, and where its children are.
 fn show_children(rt: &impl Print, word: u64) -> io::Result<()> {
-    text(rt, b"children")?;
-    field(rt, word)?;
-    text(rt, b" table")?;
-    table(rt, word)?;
-    text(rt, b" at")?;
+    print!(rt; "children {word} table")?;
+    write_table(rt, word)?;
+    print!(rt; " at")?;
     elements_with_a_child(rt, word)?;
-    end(rt)
+    println!(rt;)
 }
 
 // As many children as row 0 has 1s, up to genus 31; none at genus 32, and of refused words.
@@ -421,15 +329,11 @@ fn children(rt: &impl Print) -> io::Result<()> {
 
 // How many descendants of a genus a word has, and the first of them.
 fn show_descendants(rt: &impl Print, word: u64, genus: u64) -> io::Result<()> {
-    text(rt, b"descendants of")?;
-    field(rt, word)?;
-    text(rt, b" of genus")?;
-    field(rt, genus)?;
-    text(rt, b":")?;
-    answer(rt, counts::count(word, genus))?;
-    text(rt, b" from")?;
-    found(rt, descendants::first_descendant(word, genus))?;
-    end(rt)
+    print!(rt; "descendants of {word} of genus {genus}:")?;
+    write_answer(rt, counts::count(word, genus))?;
+    print!(rt; " from")?;
+    write_found(rt, descendants::first_descendant(word, genus))?;
+    println!(rt;)
 }
 
 // Descendants of a word's own genus, of larger ones and of a smaller one, of words that have many or none, and of refused words and genera.

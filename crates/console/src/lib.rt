@@ -23,6 +23,16 @@ pub fn read_front(rt: &impl Input, buffer: &mut [u8]) -> io::Result<usize>
     Ok(filled)
 }
 
+// Writes the line of a refusal.
+pub fn write_refusal_line(rt: &impl Print, refusal: Refusal) -> io::Result<()> {
+    let mut line = [0; 11];
+    match listing::refusal_line(refusal, &mut line) {
+        Ok(length) => rt.write_all(&line[..length as usize]),
+        // The line has its places.
+        Err(_) => Ok(()),
+    }
+}
+
 // Writes that a call is refused, with the number of its refusal, after a blank.
 pub fn write_refused(rt: &impl Print, refusal: Refusal) -> io::Result<()> {
     print!(rt; " refused {}", refusal.number())

@@ -3,55 +3,39 @@
 // file: the totals are those published in A007323, those by multiplicity were computed apart from the plain definitions.
 #![tactic(auto)]
 
-use answers::NumberAnswer;
+use answers::Refusal;
 use std::io;
-use walk::{BatchAnswer, Walk, WalkAnswer};
-
-fn text(rt: &impl Print, bytes: &[u8]) -> io::Result<()> {
-    rt.write_all(bytes)
-}
-
-// A blank and a number.
-fn field(rt: &impl Print, n: u64) -> io::Result<()> {
-    text(rt, b" ")?;
-    rt.print(n)
-}
-
-fn end(rt: &impl Print) -> io::Result<()> {
-    text(rt, b"\n")
-}
+use walk::Walk;
+use windows::Window;
 
 // ---- totals
 
 // The number of words that a walk writes in batches into the lent list, at most `most` batches.
 fn walked_into(first: Walk, most: u64, list: &mut [u64]) -> u64 {
-    let mut at = first;
+    let mut walk = first;
     let mut total: u64 = 0;
     for _ in 0..most {
-        let moved = walk::batch_from(at.genus, at.word, at.lowest, at.highest, at.finished, list);
-        let report = moved.answer;
-        let BatchAnswer::Given(written) = report else {
+        let Ok(written) = walk::batch(&mut walk, list) else {
             return total;
         };
-        total = std::num::wrapping_add_u64(total, written.count as u64);
+        total = total.wrapping_add(written.count as u64);
         if written.finished {
             return total;
         }
-        at = moved.walk;
     }
     total
 }
 
 // The same of a walk that a fresh call gave, with lists of a size, at most 4,095.
-fn walked(first: WalkAnswer, most: u64, size: usize) -> u64 {
-    let WalkAnswer::Given(walk) = first else {
+fn walked(first: Result<Walk, Refusal>, most: u64, size: usize) -> u64 {
+    let Ok(walk) = first else {
         return 0;
     };
-    let mut list = [0u64; 4095];
-    if 4095 < size {
-        return 0;
+    let mut list = [0; 4095];
+    match list.get_mut(..size) {
+        Some(lent) => walked_into(walk, most, lent),
+        None => 0,
     }
-    walked_into(walk, most, &mut list[..size])
 }
 
 // An odd size of lists for a genus.
@@ -60,28 +44,26 @@ fn odd_size(genus: u64) -> usize {
 }
 
 fn totals(rt: &impl Print) -> io::Result<()> {
-    for genus in 0..33u64 {
-        text(rt, b"genus")?;
-        field(rt, genus)?;
-        text(rt, b": count")?;
-        if let NumberAnswer::Given(n) = counts::count(0, genus) {
-            field(rt, n)?;
-            text(rt, b" walked")?;
-            field(rt, walked(walk::fresh(genus), n, odd_size(genus)))?;
+    for genus in 0..33 {
+        print!(rt; "genus {genus}: count")?;
+        if let Ok(n) = counts::count(0, genus) {
+            let walked = walked(walk::fresh(genus), n, odd_size(genus));
+            print!(rt; " {n} walked {walked}")?;
         }
-        end(rt)?;
+        println!(rt;)?;
     }
     Ok(())
 }
 
 // Genus 20 by its windows of one multiplicity, from 0 to 22.
 fn windows(rt: &impl Print) -> io::Result<()> {
-    for m in 0..23u8 {
-        text(rt, b"genus 20 multiplicity")?;
-        field(rt, m as u64)?;
-        text(rt, b": walked")?;
-        field(rt, walked(walk::fresh_in(20, m, m), 50000, 7))?;
-        end(rt)?;
+    for m in 0..23 {
+        let window = Window {
+            lowest: m,
+            highest: m,
+        };
+        let walked = walked(walk::fresh_in(20, window), 50000, 7);
+        println!(rt; "genus 20 multiplicity {m}: walked {walked}")?;
     }
     Ok(())
 }
@@ -108,28 +90,12 @@ fn is_gap(word: u64, x: u64) -> bool {
 
 // Is x a sum of two positive elements, by trying them all?
 fn sum_of_two(word: u64, x: u64) -> bool {
-    for a in 1..x {
-        if !is_gap(word, a) {
-            if !is_gap(word, x - a) {
-                return true;
-            }
-        }
-    }
-    false
+    (1..x).any(|a| !is_gap(word, a) && !is_gap(word, x - a))
 }
 
 // Is no gap up to `top` a sum of two positive elements?
 fn closed_up_to(word: u64, top: u64) -> bool {
-    for x in 1..65u64 {
-        if x <= top {
-            if is_gap(word, x) {
-                if sum_of_two(word, x) {
-                    return false;
-                }
-            }
-        }
-    }
-    true
+    (1..65).all(|x| top < x || !is_gap(word, x) || !sum_of_two(word, x))
 }
 
 // A gap set that the search made: where it is closed, the walk must give it next.
@@ -137,18 +103,15 @@ fn compared(word: u64, top: u64, s: Progress) -> Progress {
     if !closed_up_to(word, top) {
         return s;
     }
-    let mut list = [0u64; 1];
-    let before = s.walk;
-    let moved = walk::step(before, &mut list);
-    let after = moved.walk;
-    let mut different = s.different;
-    if list[0] != word {
-        different = std::num::wrapping_add_u64(different, 1);
-    }
+    let mut list = [0; 1];
+    let mut walk = s.walk;
+    // Where the walk is refused nothing is written, and the places differ.
+    let _ = walk::batch(&mut walk, &mut list);
+    let different = if list[0] == word { 0 } else { 1 };
     Progress {
-        walk: after,
-        found: std::num::wrapping_add_u64(s.found, 1),
-        different,
+        walk,
+        found: s.found.wrapping_add(1),
+        different: s.different.wrapping_add(different),
     }
 }
 
@@ -167,33 +130,28 @@ fn search(word: u64, left: u64, x: u64, top: u64, s: Progress) -> Progress {
     search(word, left, x + 1, top, with)
 }
 
+// The search of a genus, compared with a walk.
+fn search_of(rt: &impl Print, genus: u64, first: Walk) -> io::Result<()> {
+    let start = Progress {
+        walk: first,
+        found: 0,
+        different: 0,
+    };
+    let end = search(0, genus, 0, 2 * genus, start);
+    print!(rt; " {} found, {} differ", end.found, end.different)?;
+    if !end.walk.finished {
+        print!(rt; ", unfinished")?;
+    }
+    Ok(())
+}
+
 fn searches(rt: &impl Print) -> io::Result<()> {
-    for genus in 0..13u64 {
-        text(rt, b"search of genus")?;
-        field(rt, genus)?;
-        text(rt, b":")?;
-        if let WalkAnswer::Given(first) = walk::fresh(genus) {
-            let s = search(
-                0,
-                genus,
-                0,
-                2 * genus,
-                Progress {
-                    walk: first,
-                    found: 0,
-                    different: 0,
-                },
-            );
-            field(rt, s.found)?;
-            text(rt, b" found,")?;
-            field(rt, s.different)?;
-            text(rt, b" differ")?;
-            let after = s.walk;
-            if !after.finished {
-                text(rt, b", unfinished")?;
-            }
+    for genus in 0..13 {
+        print!(rt; "search of genus {genus}:")?;
+        if let Ok(first) = walk::fresh(genus) {
+            search_of(rt, genus, first)?;
         }
-        end(rt)?;
+        println!(rt;)?;
     }
     Ok(())
 }
