@@ -15,7 +15,7 @@ fn binomial(n: u64, k: u64) -> u64
     requires { (n < 32) × (k < 32) }
     ensures { result ≡ choose n k }
 {
-    pascal::PASCAL[n as usize][k as usize]
+    pascal::PASCAL[(n * 32 + k) as usize]
 }
 
 // How many semigroups of the genus are elementary with this largest gap: none but for one from the genus to twice the genus, less 1.
