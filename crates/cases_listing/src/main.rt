@@ -38,7 +38,7 @@ fn show_header_lines(rt: &impl Print) -> io::Result<()> {
 
 // What the program writes for an input, of a listing the first page.
 fn show_text(rt: &impl Print, input: &[u8]) -> io::Result<()> {
-    match requests::request(input) {
+    match requests::read(input) {
         Ok(Request::Headers) => show_header_lines(rt),
         Ok(Request::Listing(genus)) => show_listing(rt, genus),
         Err(refusal) => console::write_refusal_line(rt, refusal),

@@ -199,7 +199,7 @@ fn write_census(rt: &impl Print, genus: u64) -> io::Result<()> {
 fn main(rt: HostRuntime) -> io::Result<()> {
     let mut input = [0u8; 4];
     let n = read_front(&rt, &mut input)?;
-    let answer = requests::request(&input[..n]);
+    let answer = requests::read(&input[..n]);
     match answer {
         RequestAnswer::Refused(refusal) => write_refusal(&rt, refusal),
         RequestAnswer::Headers => write_refusal(&rt, Refusal::MalformedInput),

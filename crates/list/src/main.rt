@@ -43,7 +43,7 @@ fn write_listing(rt: &impl Print, genus: u64) -> io::Result<()> {
 fn main(rt: HostRuntime) -> io::Result<()> {
     let mut input = [0; 4];
     let n = console::read_front(&rt, &mut input)?;
-    match requests::request(&input[..n]) {
+    match requests::read(&input[..n]) {
         Ok(Request::Headers) => write_headers(&rt),
         Ok(Request::Listing(genus)) => write_listing(&rt, genus),
         Err(refusal) => console::write_refusal_line(&rt, refusal),
