@@ -16,7 +16,8 @@ use Rattle.semigroups.specs.Tree.{leaves}
 use Rattle.semigroups.proofs.Booleans.{by_value}
 use Rattle.semigroups.proofs.GenusList.{mem_genus_list}
 use Rattle.semigroups.proofs.Leaves.{genus_list_leaves}
-use Rattle.answers.specs.Answers.{Answer, refused, given, ask}
+use Rattle.answers.specs.Answers.{Answer, refused, given, number_of, ask}
+use Rattle.answers.specs.declared.Refusal.{Refusal}
 use Rattle.words.specs.Looks.{ask_word, report_of, look_of}
 use Rattle.words.specs.declared.Report.{Report}
 use Rattle.words.proofs.Looks.{asked, asked_refused, look_given_report}
@@ -24,12 +25,13 @@ use Rattle.windows.specs.Windows.{within, holds, window_list}
 use Rattle.windows.proofs.Windows.{window_mem, window_on_from}
 use Rattle.lending.specs.Lending.{Lent, put_all}
 use Rattle.lending.specs.declared.NoRoom.{NoRoom}
-use Rattle.std.specs.Prelude.{Result, Ok, Err}
+use Rattle.std.specs.Prelude.{Result, Ok, Err, IsErrAnd}
 use Rattle.lending.proofs.Lending.{leaving, put_all_is}
 use Rattle.descendants.specs.Cut.{from_multiplicity}
 use Rattle.descendants.specs.Descendants.{filled_given, write_from_of}
+use Rattle.walk.specs.declared.Moved.{Moved}
 use Rattle.walk.specs.declared.Walk.{Walk}
-use Rattle.walk.specs.Walks.{rest, standing, in_order, Ending, unmoved, batch_of}
+use Rattle.walk.specs.Walks.{rest, standing, in_order, Ending, stepped, unmoved, batch_of}
 use Rattle.walk.proofs.Walks.{in_order_mem, batch_moves}
 
 -- ---- question 4
@@ -88,6 +90,11 @@ put_ending w (o, Err e) = record {
   walk = record { genus = w.genus; word = e.next; window = w.window; finished = false };
   list = o;
 }
+
+-- a refusal that a step hands on moves nothing
+pub step_refused : (w : Walk) (r : Result Moved Refusal) (e : Refusal) (l : List ℕ) → IsErrAnd r (λ d. d ≡ e) → stepped w r l ≡ unmoved (number_of e) w l
+step_refused w (Ok m) e l h = absurd h
+step_refused w (Err d) e l h = ap (λ (r : Refusal). unmoved (number_of r) w l) h
 
 -- words that are not written are refused 4
 pub write_refused : (g lo hi w : ℕ) (lent : List ℕ) {n : ℕ} {l : List ℕ} → (refused n, l) ≡ write_from_of g lo hi w lent → n ≡ 4

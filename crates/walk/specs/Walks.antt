@@ -1,15 +1,16 @@
 -- What each call of the walk answers, where the walk stands after it and what the lent list then holds, for all arguments. They come
 -- from the window list, which has the word of every numerical semigroup of a genus with a multiplicity between two bounds once, in list
 -- order, and nothing else: `windows`, `Windows`. Assumes nothing: these are definitions.
-use Rattle.std.specs.Prelude.{ℕ, min, Bool, false, cond, ◌&&◌, List, [], ◌++◌, leb, eqb, length, take, drop, get_or, Result}
+use Rattle.std.specs.Prelude.{ℕ, min, Bool, false, cond, ◌&&◌, List, [], ◌++◌, leb, eqb, length, take, drop, get_or, Result, Ok, Err}
 use Rattle.semigroups.specs.Lists.{none, on_from}
 use Rattle.semigroups.specs.Words.{genus, closed}
 use Rattle.semigroups.specs.Elements.{multiplicity}
-use Rattle.answers.specs.Answers.{Answer, refused, given, answered, ask}
+use Rattle.answers.specs.Answers.{Answer, refused, given, number_of, answered, ask}
 use Rattle.words.specs.Looks.{ask_word}
 use Rattle.windows.specs.Windows.{within, window_list}
 use Rattle.answers.specs.declared.Refusal.{Refusal}
 use Rattle.walk.specs.declared.Walk.{Walk}
+use Rattle.walk.specs.declared.Moved.{Moved}
 use Rattle.walk.specs.declared.Written.{Written}
 
 -- ---- where a walk stands
@@ -65,6 +66,11 @@ pub record Ending : Type 0 where
 -- the ending of a batch that returned r and left this walk and this list
 abbrev pub ended : Result Written Refusal → Walk → List ℕ → Ending
 ended r w l = record { answer = answered r; walk = w; list = l }
+
+-- the ending of a batch by value of the walk w that returned r and left this list: where it is refused, the walk is w
+abbrev pub stepped : Walk → Result Moved Refusal → List ℕ → Ending
+stepped w (Err r) l = record { answer = refused (number_of r); walk = w; list = l }
+stepped w (Ok m) l = record { answer = given m.written; walk = m.walk; list = l }
 
 -- refused: the walk and the list are as they were
 abbrev pub unmoved : ℕ → Walk → List ℕ → Ending

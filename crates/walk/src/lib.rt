@@ -3,7 +3,7 @@
 
 ghost use Rattle.std.specs.Prelude.{◌≡◌};
 ghost use Rattle.answers.specs.Answers.{answered};
-ghost use Rattle.walk.specs.Walks.{in_order, ended, fresh_of, fresh_in_of, start_of, start_in_of, batch_of};
+ghost use Rattle.walk.specs.Walks.{in_order, ended, stepped, fresh_of, fresh_in_of, start_of, start_in_of, batch_of};
 
 use answers::Refusal;
 use windows::Window;
@@ -23,6 +23,13 @@ pub struct Walk {
 pub struct Written {
     pub count: usize,
     pub finished: bool,
+}
+
+// What a batch by value gives: the walk afterwards, and its report.
+#[derive(Clone, Copy, Debug, PartialEq, Eq)]
+pub struct Moved {
+    pub walk: Walk,
+    pub written: Written,
 }
 
 // Question 4: is the walk finished with word 0, or unfinished on an accepted word of its genus in its window?
@@ -78,10 +85,10 @@ pub fn start(word: u64) -> Result<Walk, Refusal>
     start_in(word, Window::WHOLE)
 }
 
-// A batch: fills the lent list from the front with the words from the walk's on, as far as the list or the semigroups last, and moves the walk
-// to the next. Refused above genus 32 and where the walk is out of order: then nothing is written, and the walk is as it was.
-pub fn batch(walk: &mut Walk, out: &mut [u64]) -> Result<Written, Refusal>
-    ensures { ended result walk.new out.new ≡ batch_of walk.old out.old }
+// A batch by value: fills the lent list from the front with the words from the walk's on, as far as the list or the semigroups last, and gives
+// the walk that stands on the next. Refused above genus 32 and where the walk is out of order: then nothing is written.
+pub fn step(walk: Walk, out: &mut [u64]) -> Result<Moved, Refusal>
+    ensures { stepped walk result out.new ≡ batch_of walk out.old }
 {
     if 32 < walk.genus {
         return Err(Refusal::GenusTooLarge);
@@ -90,26 +97,44 @@ pub fn batch(walk: &mut Walk, out: &mut [u64]) -> Result<Written, Refusal>
         if walk.word != 0 {
             return Err(Refusal::WalkOutOfOrder);
         }
-        return Ok(Written {
-            count: 0,
-            finished: true,
+        return Ok(Moved {
+            walk,
+            written: Written {
+                count: 0,
+                finished: true,
+            },
         });
     }
     match descendants::write_from(walk.genus, walk.word, walk.window, out)? {
-        Ok(count) => {
-            walk.word = 0;
-            walk.finished = true;
-            Ok(Written {
+        Ok(count) => Ok(Moved {
+            walk: Walk {
+                word: 0,
+                finished: true,
+                ..walk
+            },
+            written: Written {
                 count,
                 finished: true,
-            })
-        }
-        Err(full) => {
-            walk.word = full.next;
-            Ok(Written {
+            },
+        }),
+        Err(full) => Ok(Moved {
+            walk: Walk {
+                word: full.next,
+                ..walk
+            },
+            written: Written {
                 count: out.len(),
                 finished: false,
-            })
-        }
+            },
+        }),
     }
+}
+
+// A batch, which moves the walk of the caller on: where it is refused, the walk is as it was.
+pub fn batch(walk: &mut Walk, out: &mut [u64]) -> Result<Written, Refusal>
+    ensures { ended result walk.new out.new ≡ batch_of walk.old out.old }
+{
+    let moved = step(*walk, out)?;
+    *walk = moved.walk;
+    Ok(moved.written)
 }

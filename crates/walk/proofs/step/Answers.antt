@@ -1,25 +1,23 @@
--- `walk::batch` meets its contract: each refusal by its question, and else the words are put from the walk's on. Assumes nothing.
+-- `walk::step` meets its contract: each refusal by its question, and else the words are put from the walk's on. Assumes nothing.
 use Prim.Native.Nat.{ℕ}
-use mathlib.Core.Path.{◌≡◌, refl, sym, ap, ◌∙◌}
+use mathlib.Core.Path.{◌≡◌, sym, ap, ◌∙◌}
 use mathlib.Core.Bool.{Bool, false}
 use mathlib.Core.List.{List}
 use lib.ListN.{length}
 use Rattle.std.specs.Prelude.{Result}
-use Rattle.answers.specs.Answers.{Answer, given}
-use Rattle.answers.proofs.Answers.{handed_on}
+use Rattle.answers.specs.Answers.{given}
 use Rattle.lending.specs.declared.NoRoom.{NoRoom}
 use Rattle.walk.specs.declared.Walk.{Walk}
-use Rattle.walk.specs.declared.Written.{Written}
 use Rattle.walk.specs.Walks.{Ending, batch_of}
-use Rattle.walk.proofs.Batches.{written_ending, batch_genus, batch_no_word, batch_idle, batch_written}
-use Rattle.walk.proofs.batch.Goals as goal
-use Rattle.walk.proofs.batch.Goals.{In_ok-count}
+use Rattle.walk.proofs.Batches.{written_ending, step_refused, batch_genus, batch_no_word, batch_idle, batch_written}
+use Rattle.walk.proofs.step.Goals as goal
+use Rattle.walk.proofs.step.Goals.{In_ok-count}
 
 -- the ending of the batch, by what became of the lent list
 ending : (c : In_ok-count) {t : Result ℕ NoRoom} → c.in_ok-count.field-0 ≡ t →
-    written_ending c.args.walk.now (given t, c.write_from.new.out) ≡ batch_of c.args.walk.now c.args.out.now
+    written_ending c.args.walk (given t, c.write_from.new.out) ≡ batch_of c.args.walk c.args.out.now
 ending c e =
-    let w : Walk = c.args.walk.now in
+    let w : Walk = c.args.walk in
     ap (λ (t : Result ℕ NoRoom). written_ending w (given t, c.write_from.new.out)) (sym e)
     ∙ ap (written_ending w) c.in_ok-count.ensures
     ∙ sym (batch_written w _ c.if-walk-gt32.false c.if-walk.false)
@@ -35,9 +33,8 @@ returns-then-walk c = sym (batch_idle _ _ c.if-walk-gt32.false c.if-walk.true c.
 
 pub returns-in_err-count : goal.returns-in_err-count
 returns-in_err-count c =
-    let w : Walk = c.args.walk.now in
-    let with_answer : Answer Written → Ending = λ a. record { answer = a; walk = w; list = c.write_from.new.out } in
-    ap with_answer (handed_on _ _ c.from_residual.ensures.1 refl)
+    let w : Walk = c.args.walk in
+    step_refused w _ _ _ c.from_residual.ensures.1
     ∙ ap (written_ending w) c.in_err-count.ensures
     ∙ sym (batch_written w _ c.if-walk-gt32.false c.if-walk.false)
 
@@ -46,7 +43,7 @@ returns-in-Ok c = ending (goal.at.returns-in-Ok c).In_ok-count c.in-Ok.is
 
 pub returns-in-Err : goal.returns-in-Err
 returns-in-Err c =
-    let w : Walk = c.args.walk.now in
+    let w : Walk = c.args.walk in
     let out : List ℕ = c.write_from.new.out in
     let still : Bool → Ending = λ b. record {
       answer = given record { count = length out; finished = false };
