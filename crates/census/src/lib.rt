@@ -28,6 +28,7 @@ fn clear_places(out: &mut [u64])
 }
 
 // The place of a word: 65 times its multiplicity and its reported conductor.
+#[tactic(auto, using(semigroups::proofs::Operations::conductor_le, semigroups::proofs::Operations::multiplicity_le, semigroups::proofs::Reported::reported_le), unfolding(words::specs::Looks::report_of, crate::specs::Private::census_place))]
 fn place_of(word: u64) -> u64
     ensures { result ≡ census_place word }
 {
@@ -148,6 +149,7 @@ fn sum_of_conductors(out: &[u64]) -> u64
 // The census of a genus: place 65 m + c of the lent list gets the number of semigroups with multiplicity m and reported conductor c, for m
 // from 0 to 33 and c from 0 to 64, and the sum of all conductors is given. Refused above genus 32 and with fewer than 2,210 places: then
 // nothing is written.
+#[tactic(auto, using(crate::proofs::Theorems::refused_genus, crate::proofs::Theorems::refused_list))]
 pub fn census(genus: u64, out: &mut [u64]) -> Result<u64, Refusal>
     ensures { listed result out.new ≡ census_of genus out.old }
 {

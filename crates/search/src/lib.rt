@@ -88,6 +88,7 @@ fn first_among(n: Node, rest: u64, left: u64, gap: u64) -> Option<u64>
 
 // The node of the semigroup of 0 and all numbers from `m` on, the first of multiplicity m: no number from m to 2 m - 1 is a sum of two
 // elements below m, so that its table has m entries 1.
+#[tactic(auto, using(semigroups::proofs::Bits::one_shl, nodes::proofs::FirstNode::first_node))]
 fn first_node(m: u64) -> Node
     requires { (1 ≤ m) × (m ≤ 33) }
     ensures { result ≡ node_of (2 ^ (m - 1) - 1) }

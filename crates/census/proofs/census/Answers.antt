@@ -15,15 +15,9 @@ use Rattle.census.specs.Census.{census_places}
 use Rattle.census.specs.Private.{census_place, tallied, RoomFor, conductors_in}
 use Rattle.census.proofs.Places.{places_length, census_tallied}
 use Rattle.census.proofs.Totals.{conductors_of_places, conductor_sum_fits, room_for_all}
-use Rattle.census.proofs.Theorems.{refused_genus, refused_list, census_given}
+use Rattle.census.proofs.Theorems.{census_given}
 use Rattle.census.proofs.census.Goals as goal
 use Rattle.census.proofs.census.Goals.{After-tally}
-
-pub returns-then-genus-gt32 : goal.returns-then-genus-gt32
-returns-then-genus-gt32 c = sym (refused_genus _ _ c.if-genus-gt32.true)
-
-pub returns-then-out-lt2210 : goal.returns-then-out-lt2210
-returns-then-out-lt2210 c = sym (refused_list _ _ c.if-genus-gt32.false c.if-out-lt2210.true)
 
 -- the words below the root are those of the genus list
 words_below : (g : ℕ) (n : Node) → g ≤ 32 → n ≡ node_of 0 → leaves g n.word ≡ genus_list g

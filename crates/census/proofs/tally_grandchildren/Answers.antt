@@ -13,8 +13,6 @@ overflow_shl-first_row c = omega (arith, conductor_within 2 _ c.requires.node_wi
 pub overflow_shl-second_row : goal.overflow_shl-second_row
 overflow_shl-second_row c = omega (arith, conductor_within 2 _ c.requires.node_with_levels)
 
-pub tally_by_rows-requires : goal.tally_by_rows-requires
-tally_by_rows-requires c = record {
-  two_rows = node_two_rows _ refl c.first_row.ensures c.second_row.ensures c.requires.node_with_levels c.requires.word_bound;
-  room_for = c.requires.room_for;
-}
+pub tally_by_rows-requires-clause-two_rows : goal.tally_by_rows-requires-clause-two_rows
+tally_by_rows-requires-clause-two_rows c =
+    node_two_rows _ refl c.first_row.ensures c.second_row.ensures c.requires.node_with_levels c.requires.word_bound
