@@ -1,8 +1,9 @@
 -- The generators below the conductor by shifts: elements below it that are no sum of two such elements. Assumes nothing.
 use Prim.Native.Nat.{ℕ, ◌+◌, ◌*◌, ◌-◌, ◌%◌, ◌^◌, ◌≤◌, ◌<◌}
-use mathlib.Core.Path.{◌≡◌, refl, sym, ap, ap₂, fun_ext, ◌∙◌}
-use mathlib.Core.Bool.{Bool, and-true, true, false, not, ◌||◌, ◌&&◌, and-false, or-false, and-eq-true_iff}
-use mathlib.Core.List.{List, [], ◌∷◌, ◌++◌, map}
+use mathlib.Core.Path.{◌≡◌, refl, sym, ap, ap₂, subst, fun_ext, ◌∙◌}
+use mathlib.Core.Bool.{Bool, and-true, true, not, ◌&&◌, and-false, and-eq-true_iff}
+use mathlib.Core.List.Memᴰ
+use mathlib.Core.List.{List, [], ◌∷◌, ◌++◌, map, append_assoc, append-nil, Memᴰ}
 use native.Mathlib.Omega.{arith}
 use native.Mathlib.Nat.{add_comm}
 use lib.Dec.{ltb}
@@ -12,19 +13,21 @@ use lib.ListN.{length, length-append, length-map}
 use borrow.Author.Tests.{ltb-true, lt-ltb, not-true, not-false}
 use Rattle.semigroups.specs.Lists.{run, keep, every}
 use Rattle.semigroups.specs.Sets.{Set, sum_of_two}
-use Rattle.semigroups.specs.Words.{set_of, conductor}
+use Rattle.semigroups.specs.Words.{bit, set_of, conductor}
 use Rattle.semigroups.specs.Positions.{positions, bits_from}
 use Rattle.semigroups.specs.Elements.{generator}
 use Rattle.semigroups.proofs.Booleans.{not_both, is_false, by_value, true_together}
-use Rattle.semigroups.proofs.Lists.{run_mem, mem_run, keep_mem, mem_keep, ordered_run, ordered_keep, ordered_unique, every_mem, every_false, some_more, run_append}
+use Rattle.semigroups.proofs.Lists.{run_mem, mem_run, keep_mem, mem_keep, ordered_run, ordered_keep, ordered_unique, every_mem, every_false, some_more}
 use Rattle.semigroups.proofs.Bits.{one_shl}
 use Rattle.semigroups.proofs.Sets.{sum_of, sum_found, same_sums}
-use Rattle.semigroups.proofs.BitSets.{bits_from_same, bits_from_listed, bits_from_none, bits_from_not, bits_from_or, bits_from_and, bits_from_shl, bits_from_below, complement_from}
+use Rattle.semigroups.proofs.BitSets.{bits_from_same, bits_from_bit, bits_from_listed, bits_from_none, bits_from_not, bits_from_or, bits_from_and, bits_from_shl, bits_from_below, complement_from}
+use Rattle.semigroups.proofs.StandingBits.{positions_mem, mem_positions, positions_zero}
 use Rattle.semigroups.proofs.Elements.{conductor_pos, generator_parts}
 use Rattle.seeds.specs.Seeds.{set_below}
 use Rattle.seeds.proofs.Seeds.{below_in, in_below}
 use Rattle.words.specs.Looks.{Accepted}
-use Rattle.nodes.specs.Nodes.{first_row}
+use Rattle.nodes.specs.Nodes.{TakenOff, first_row}
+use Rattle.nodes.proofs.Branches.{lowest_in}
 use Rattle.nodes.specs.Levels.{NodeWithLevels}
 use Rattle.nodes.specs.declared.Node.{Node}
 use Rattle.nodes.proofs.Nodes.{first_row_generators}
@@ -35,62 +38,84 @@ use Rattle.generators.proofs.MinimalGenerators.{generators_parts}
 
 -- ---- sums of two
 
--- x is a sum of two positive elements of S, the first at most k
-unfoldable pub sum_to : Set → ℕ → Set
-sum_to S k x = not (every (λ y. not (S y && (ltb y x && S (x - y)))) (run 1 k))
+-- x less k + 1 is a positive element of S
+abbrev moved_up : Set → ℕ → Set
+moved_up S k x = ltb (k + 1) x && S (x - (k + 1))
+
+-- so it is for one of these k
+unfoldable pub sums_with : Set → List ℕ → Set
+sums_with S l x = not (every (λ k. not (moved_up S k x)) l)
 
 module _ (S : Set) where
-  pub sums_none : 0 ≡ bits_from (sum_to S 0) 1
-  unfolding sum_to run every
-  sums_none = bits_from_none (sum_to S 0) 1 (λ x l h. refl)
+  pub sums_none : 0 ≡ bits_from (sums_with S []) 1
+  unfolding sums_with every
+  sums_none = bits_from_none (sums_with S []) 1 (λ x l h. refl)
 
-  module _ (k : ℕ) where
-    -- x less k + 1 is a positive element
-    moved_up : Set
-    moved_up x = ltb (k + 1) x && S (x - (k + 1))
+  -- the sums with one more are the elements moved up by it
+  pub sums_more : (l : List ℕ) (k : ℕ) → bit_or (bits_from (sums_with S l) 1) (bits_from S 1 * 2 ^ (k + 1) % 2 ^ 64) ≡ bits_from (sums_with S (l ++ k ∷ [])) 1
+  unfolding sums_with
+  sums_more l k =
+      ap (bit_or (bits_from (sums_with S l) 1)) (bits_from_shl S (k + 1)) ∙ bits_from_or (sums_with S l) (moved_up S k) 1
+      ∙ ap (λ (T : Set). bits_from T 1) (fun_ext (λ x. sym (some_more (λ j. moved_up S j x) l k)))
 
-    sum_to_more : (x : ℕ) → sum_to S (k + 1) x ≡ (sum_to S k x || (S (k + 1) && moved_up x))
-    unfolding sum_to moved_up run
-    sum_to_more x =
-        let p : ℕ → Bool = λ y. S y && (ltb y x && S (x - y)) in
-        ap (λ (l : List ℕ). not (every (λ y. not (p y)) l)) (run_append 1 k 1 ∙ ap (λ (n : ℕ). run 1 k ++ n ∷ []) (add_comm 1 k)) ∙ some_more p (run 1 k) (k + 1)
+  -- bit k stands for the element k + 1
+  pub bit_element : {k : ℕ} → Memᴰ k (positions (bits_from S 1)) → S (k + 1) ≡ true
+  bit_element {k} m = let (below, e) = positions_mem (bits_from S 1) m in ap S (add_comm k 1) ∙ sym (bits_from_bit S 1 k below) ∙ e
 
-    more : (b : Bool) → S (k + 1) ≡ b → (x : ℕ) → (sum_to S k x || (b && moved_up x)) ≡ sum_to S (k + 1) x
-    more b e x = sym (sum_to_more x ∙ ap (λ (b : Bool). sum_to S k x || (b && moved_up x)) e)
-
-    -- the sums with k + 1 are the elements moved up by it
-    pub sums_more : S (k + 1) ≡ true → bit_or (bits_from (sum_to S k) 1) (bits_from S 1 * 2 ^ (k + 1) % 2 ^ 64) ≡ bits_from (sum_to S (k + 1)) 1
-    unfolding moved_up
-    sums_more e =
-        ap (bit_or (bits_from (sum_to S k) 1)) (bits_from_shl S (k + 1)) ∙ bits_from_or (sum_to S k) moved_up 1 ∙ ap (λ (T : Set). bits_from T 1) (fun_ext (more true e))
-
-    -- where k + 1 is no element there is no sum more
-    pub sums_same : S (k + 1) ≡ false → bits_from (sum_to S k) 1 ≡ bits_from (sum_to S (k + 1)) 1
-    sums_same e = ap (λ (T : Set). bits_from T 1) (fun_ext (λ x. sym (or-false (sum_to S k x)) ∙ more false e x))
-
-  -- up to 64 all sums are found
-  sum_to_all : (x : ℕ) → x ≤ 64 → sum_to S 63 x ≡ sum_of_two S x
-  unfolding sum_to
-  sum_to_all x h =
-      true_together (sum_to S 63 x) (sum_of_two S x)
+  -- with those for which a bit stands all sums up to 64 are found
+  sums_all : (x : ℕ) → x ≤ 64 → sums_with S (positions (bits_from S 1)) x ≡ sum_of_two S x
+  unfolding sums_with
+  sums_all x h =
+      true_together (sums_with S (positions (bits_from S 1)) x) (sum_of_two S x)
       (λ e.
-      let (y, m, f) = every_false q (run 1 63) (not-true _ e) in
-      let (s, t) = (and-eq-true_iff (S y) (ltb y x && S (x - y))).0 (not-false _ f) in
-      let (l, r) = (and-eq-true_iff (ltb y x) (S (x - y))).0 t in
-      let less = ltb-true y x l in
-      sum_found S x y (x - y) (run_mem 1 63 m).0 (omega arith) (omega arith) s r)
+      let (k, m, f) = every_false q (positions (bits_from S 1)) (not-true _ e) in
+      let (l, r) = (and-eq-true_iff (ltb (k + 1) x) (S (x - (k + 1)))).0 (not-false _ f) in
+      let less = ltb-true (k + 1) x l in
+      sum_found S x (k + 1) (x - (k + 1)) (omega arith) (omega arith) (omega arith) (bit_element m) r)
       (λ e.
       let s = sum_of S x e in
-      let y : ℕ = s.one in
-      let rest : s.other ≡ x - y = omega (arith, s.sum) in
-      let less : y < x = omega (arith, s.sum, s.other_pos) in
-      ap not (is_false (every q (run 1 63)) (λ t.
-      not_both
-      ((and-eq-true_iff (S y) (ltb y x && S (x - y))).1 (s.one_in, (and-eq-true_iff (ltb y x) (S (x - y))).1 (lt-ltb y x less, ap S (sym rest) ∙ s.other_in)))
-      (not-true _ (every_mem q (run 1 63) t (mem_run 1 63 s.one_pos (omega arith)))))))
+      let k : ℕ = s.one - 1 in
+      let one : s.one ≡ k + 1 = omega (arith, s.one_pos) in
+      let rest : s.other ≡ x - (k + 1) = omega (arith, s.sum) in
+      let less : k + 1 < x = omega (arith, s.sum, s.other_pos) in
+      let low : k < 64 = omega arith in
+      let stands : bit (bits_from S 1) k ≡ true = bits_from_bit S 1 k low ∙ ap S (add_comm 1 k ∙ sym one) ∙ s.one_in in
+      ap not (is_false (every q (positions (bits_from S 1))) (λ t.
+      not_both ((and-eq-true_iff (ltb (k + 1) x) (S (x - (k + 1)))).1 (lt-ltb (k + 1) x less, ap S (sym rest) ∙ s.other_in))
+      (not-true _ (every_mem q (positions (bits_from S 1)) t (mem_positions (bits_from S 1) k low stands))))))
     where
       q : ℕ → Bool
-      q y = not (S y && (ltb y x && S (x - y)))
+      q k = not (moved_up S k x)
+
+-- the sums with the bits of n that are not left in `rest` are found
+pub record SumsFound (S : Set) (n sums rest : ℕ) : Type 0 where
+  pub elements : n ≡ bits_from S 1
+  pub passed : List ℕ
+  pub split : passed ++ positions rest ≡ positions n
+  pub found : sums ≡ bits_from (sums_with S passed) 1
+
+module _ {S : Set} {n sums rest : ℕ} (f : SumsFound S n sums rest) where
+  module _ {k left : ℕ} (low : TakenOff rest k left) where
+    -- the next bit stands for an element
+    pub next_element : S (k + 1) ≡ true
+    next_element =
+        bit_element S
+        (subst (Memᴰ k) (f.split ∙ ap positions f.elements) (Memᴰ.append_right f.passed (lowest_in low)))
+
+    -- with it
+    pub sums_next : SumsFound S n (bit_or sums (n * 2 ^ (k + 1) % 2 ^ 64)) left
+    sums_next = record {
+      elements = f.elements;
+      passed = f.passed ++ k ∷ [];
+      split = append_assoc f.passed (k ∷ []) (positions left) ∙ ap (λ (l : List ℕ). f.passed ++ l) (sym low.first) ∙ f.split;
+      found = ap₂ (λ (s e : ℕ). bit_or s (e * 2 ^ (k + 1) % 2 ^ 64)) f.found f.elements ∙ sums_more S f.passed k;
+    }
+
+  -- with the last, all are
+  pub sums_found : rest ≡ 0 → sums ≡ bits_from (sums_with S (positions (bits_from S 1))) 1
+  sums_found none =
+      let all : f.passed ≡ positions n = sym (append-nil f.passed) ∙ ap (λ (l : List ℕ). f.passed ++ l) (sym (ap positions none ∙ positions_zero)) ∙ f.split in
+      f.found ∙ ap (λ (l : List ℕ). bits_from (sums_with S l) 1) (all ∙ ap positions f.elements)
 
 -- ---- the elements below the conductor
 
@@ -115,11 +140,13 @@ module _ (w : ℕ) where
       ∙ sym (ap (λ (a : Bool). a && generator w x) e))
 
   -- elements less the sums, as bits
-  pub low_bits_found : bit_and (bits_from below_conductor 1) (2 ^ 64 - 1 - bits_from (sum_to below_conductor 63) 1) ≡ bits_from (low_generator w) 1
-  low_bits_found =
-      ap (bit_and (bits_from below_conductor 1)) (bits_from_not (sum_to below_conductor 63) 1) ∙ bits_from_and below_conductor (λ x. not (sum_to below_conductor 63 x)) 1
-      ∙ bits_from_same (λ x. below_conductor x && not (sum_to below_conductor 63 x)) (low_generator w) 1
-      (λ x l h. ap (λ (b : Bool). below_conductor x && not b) (sum_to_all below_conductor x (omega arith)) ∙ is_low x l)
+  pub low_bits_found : {n sums : ℕ} → SumsFound below_conductor n sums 0 → bit_and n (2 ^ 64 - 1 - sums) ≡ bits_from (low_generator w) 1
+  low_bits_found {n} {sums} f =
+      let S : Set = sums_with below_conductor (positions (bits_from below_conductor 1)) in
+      ap₂ (λ (e s : ℕ). bit_and e (2 ^ 64 - 1 - s)) f.elements (sums_found f refl)
+      ∙ ap (bit_and (bits_from below_conductor 1)) (bits_from_not S 1) ∙ bits_from_and below_conductor (λ x. not (S x)) 1
+      ∙ bits_from_same (λ x. below_conductor x && not (S x)) (low_generator w) 1
+      (λ x l h. ap (λ (b : Bool). below_conductor x && not b) (sums_all below_conductor x (omega arith)) ∙ is_low x l)
 
   module _ (fits : w < 2 ^ 64) (low : conductor w ≤ 64) where
     pub below_bits : bit_and (2 ^ 64 - 1 - w) (1 * 2 ^ (conductor w - 1) % 2 ^ 64 - 1) ≡ bits_from below_conductor 1

@@ -11,7 +11,7 @@ ghost use Rattle.generators.specs.Generators.{generators_of};
 ghost use Rattle.generators.specs.Private.{low_generator};
 
 use answers::Refusal;
-use nodes::Node;
+use nodes::{Bits, Node};
 
 // Writes `first + i` for each standing bit i, in rising order, from the place `start` on. The place after them.
 fn write_bits(bits: u64, first: u64, start: usize, out: &mut [u8]) -> usize
@@ -19,11 +19,9 @@ fn write_bits(bits: u64, first: u64, start: usize, out: &mut [u8]) -> usize
     ensures { (result ≡ start + length (positions bits)) × (out.new ≡ fronted (take start out.old ++ map (λ i. first + i) (positions bits)) out.old) }
 {
     let mut at = start;
-    for i in 0..64u64 {
-        if bits >> i & 1 == 1 {
-            out[at] = (first + i) as u8;
-            at += 1;
-        }
+    for low in Bits(bits) {
+        out[at] = (first + low.at.0) as u8;
+        at += 1;
     }
     at
 }
@@ -35,10 +33,8 @@ fn low_generators(word: u64, c: u64) -> u64
 {
     let elements = !word & ((1 << (c - 1)) - 1);
     let mut sums = 0;
-    for k in 0..63u64 {
-        if elements >> k & 1 == 1 {
-            sums |= elements << (k + 1);
-        }
+    for low in Bits(elements) {
+        sums |= elements << (low.at.0 + 1);
     }
     elements & !sums
 }
