@@ -40,6 +40,7 @@ fn low_generators(word: u64, c: u64) -> u64
 }
 
 // How many bits stand.
+#[tactic(auto, using(semigroups::proofs::StandingBits::positions_ones))]
 fn standing_bits(bits: u64) -> usize
     ensures { result ≡ length (positions bits) }
 {

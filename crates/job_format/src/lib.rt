@@ -48,6 +48,7 @@ pub fn stands(map: u8, at: usize) -> bool
 }
 
 // The number of bytes that the field of a bit has in a job with this bit map.
+#[tactic(auto, using(crate::proofs::Format::width_had), unfolding(crate::specs::Format::field_size))]
 fn field_size(map: u8, at: usize) -> usize
     ensures { result ≡ field_size map at }
 {
@@ -170,6 +171,7 @@ fn all_in(job: &[u8]) -> Fields
 }
 
 // Reads the fields of a job of version 1 or 2.
+#[tactic(auto, using(crate::proofs::Format::has_map), unfolding(crate::specs::Fields::fields_of))]
 pub fn fields_from(job: &[u8]) -> Result<Fields, Refusal>
     ensures { answered result ≡ fields_of 2 job.now }
 {

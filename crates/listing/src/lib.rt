@@ -27,6 +27,7 @@ pub struct Page {
 }
 
 // Writes the two digits of a number below 100, and gives the place after them.
+#[tactic(auto, unfolding(crate::specs::Writing::pair_of))]
 fn put_pair(out: &mut [u8], at: usize, n: u8) -> usize
     requires { at + 2 ≤ length out.old }
     ensures { Puts out.old at (pair_of n) out.new result }
@@ -53,6 +54,7 @@ fn put_number(out: &mut [u8], at: usize, n: u64) -> usize
 }
 
 // Writes a number in decimal and the byte that ends it.
+#[tactic(auto, using(crate::proofs::Lines::length_field))]
 fn put_field(out: &mut [u8], at: usize, n: u64, end: u8) -> usize
     requires { at + length (field n end) ≤ length out.old }
     ensures { Puts out.old at (field n end) out.new result }
@@ -63,6 +65,7 @@ fn put_field(out: &mut [u8], at: usize, n: u64, end: u8) -> usize
 }
 
 // Writes bytes.
+#[tactic(auto, using(crate::proofs::Writing::puts_part))]
 fn put_bytes(out: &mut [u8], at: usize, bytes: &[u8]) -> usize
     requires { at + length bytes.now ≤ length out.old }
     ensures { Puts out.old at bytes.now out.new result }
@@ -108,6 +111,7 @@ pub fn refusal_line(refusal: Refusal, out: &mut [u8]) -> Result<u64, Refusal>
 }
 
 // A listing of a genus, of which nothing was written: refused above genus 32.
+#[tactic(auto, using(answers::proofs::Answers::handed_on, crate::proofs::Pages::fresh_listing))]
 pub fn fresh(genus: u64) -> Result<Listing, Refusal>
     ensures { answered result ≡ fresh_listing_of genus }
 {
@@ -130,6 +134,7 @@ fn put_header(out: &mut [u8], at: usize, genus: u64, count: u64) -> usize
 }
 
 // Writes the header of a genus: up to genus 32 the count is given.
+#[tactic(auto, using(crate::proofs::HeaderLines::count_given, crate::proofs::HeaderLines::count_not_refused, crate::proofs::Writing::puts_as))]
 fn put_header_of(out: &mut [u8], at: usize, genus: u64) -> usize
     requires { (genus ≤ 32) × (at + 36 ≤ length out.old) }
     ensures { Puts out.old at (header_of genus) out.new result }
@@ -141,6 +146,7 @@ fn put_header_of(out: &mut [u8], at: usize, genus: u64) -> usize
 }
 
 // Writes the header of a genus to the front of a list, unless it was written, and gives the place after it.
+#[tactic(auto, using(crate::proofs::Writing::puts_nothing), unfolding(crate::specs::Pages::heading_of))]
 fn put_heading(out: &mut [u8], headed: bool, genus: u64) -> usize
     requires { (genus ≤ 32) × (36 ≤ length out.old) }
     ensures { Puts out.old 0 (heading_of headed genus) out.new result }
@@ -195,6 +201,7 @@ fn lines_in(room: usize) -> usize
 }
 
 // How many lines a page has in a list of that many places: none in fewer than 64.
+#[tactic(auto, unfolding(crate::specs::Pages::lines_within))]
 fn lines_within(headed: bool, places: usize) -> usize
     ensures { result ≡ cond (leb 64 places) (lines_within headed places) 0 }
 {

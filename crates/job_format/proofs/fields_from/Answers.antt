@@ -1,33 +1,10 @@
 -- `job_format::fields_from` meets its contract: the questions one after the other. Assumes nothing.
 use Rattle.std.proofs.Common.{ℕ, List, length, sym, ap, ◌∙◌, arith}
-use borrow.Author.Tests.{eq-eqb, ne_eqb}
+use borrow.Author.Tests.{eq-eqb}
 use Rattle.answers.specs.Answers.{given}
 use Rattle.job_format.specs.Format.{job_length, map_in}
 use Rattle.job_format.specs.Fields.{fields_of}
-use Rattle.job_format.proofs.Format.{has_map}
 use Rattle.job_format.proofs.fields_from.Goals as goal
-
-pub returns-then-not-has_version : goal.returns-then-not-has_version
-unfolding fields_of
-returns-then-not-has_version c = rw (sym c.has_version.ensures ∙ c.if-not-has_version.true)
-
-pub bounds-job-0 : goal.bounds-job-0
-bounds-job-0 c = has_map _ (sym c.has_version.ensures ∙ c.if-not-has_version.false)
-
-pub returns-then-not-knows : goal.returns-then-not-knows
-unfolding fields_of
-returns-then-not-knows c = rw (sym c.has_version.ensures ∙ c.if-not-has_version.false, ← c.version_of.ensures, sym c.knows.ensures ∙ c.if-not-knows.true)
-
-pub returns-then-job-field_place : goal.returns-then-job-field_place
-unfolding fields_of
-returns-then-job-field_place c =
-    let job : List ℕ = c.args.job.now in
-    rw (
-      sym c.has_version.ensures ∙ c.if-not-has_version.false,
-      ← c.version_of.ensures,
-      sym c.knows.ensures ∙ c.if-not-knows.false,
-      ne_eqb (length job) (job_length (map_in job)) (λ e. omega (arith, c.field_place.ensures)),
-    )
 
 pub returns : goal.returns
 unfolding fields_of
