@@ -11,13 +11,12 @@ ghost use Rattle.semigroups.specs.Elements.{element_at, multiplicity};
 ghost use Rattle.semigroups.specs.Positions.{positions};
 ghost use Rattle.semigroups.specs.Tree.{leaves};
 ghost use Rattle.answers.specs.Answers.{listed};
-ghost use Rattle.nodes.specs.Levels.{NodeWithLevels};
 ghost use Rattle.nodes.specs.NewGaps.{TwoRows};
 ghost use Rattle.census.specs.Census.{census_of};
 ghost use Rattle.census.specs.Private.{census_place, blank, one_more_at, tallied, ArePlaces, RoomFor, conductors_in};
 
 use answers::Refusal;
-use nodes::{Bits, Node};
+use nodes::{Bits, Subtree};
 
 // Sets the 2,210 places to 0.
 fn clear_places(out: &mut [u64])
@@ -74,24 +73,26 @@ fn tally_by_rows(word: u64, generators: u64, seeds: u64, out: &mut [u64])
 }
 
 // Counts the words two levels below a node whose conductor is above its multiplicity, from rows 0 and 1 alone.
-fn tally_grandchildren(n: Node, out: &mut [u64])
-    requires node_with_levels { NodeWithLevels 2 n }
-    requires word_bound { multiplicity n.word < conductor n.word }
-    requires room_for { RoomFor (length (leaves 2 n.word)) out.old }
-    ensures { out.new ≡ tallied (map census_place (leaves 2 n.word)) out.old }
+fn tally_grandchildren(tree: Subtree, out: &mut [u64])
+    requires left { tree.left ≡ 2 }
+    requires word_bound { multiplicity tree.node.word < conductor tree.node.word }
+    requires room_for { RoomFor (length (leaves 2 tree.node.word)) out.old }
+    ensures { out.new ≡ tallied (map census_place (leaves 2 tree.node.word)) out.old }
 {
+    let n = tree.node;
     let up = n.conductor - 1;
     tally_by_rows(n.word, n.first_row() << up, n.second_row() << up, out);
 }
 
 // Counts the words three levels below a node whose conductor is above its second positive element, from rows 0, 1 and 2 alone: rows 0 and 1 of
 // each child tell the words below it.
-fn tally_great_grandchildren(n: Node, out: &mut [u64])
-    requires node_with_levels { NodeWithLevels 3 n }
-    requires word_bound { element_at n.word 2 < conductor n.word }
-    requires room_for { RoomFor (length (leaves 3 n.word)) out.old }
-    ensures { out.new ≡ tallied (map census_place (leaves 3 n.word)) out.old }
+fn tally_great_grandchildren(tree: Subtree, out: &mut [u64])
+    requires left { tree.left ≡ 3 }
+    requires word_bound { element_at tree.node.word 2 < conductor tree.node.word }
+    requires room_for { RoomFor (length (leaves 3 tree.node.word)) out.old }
+    ensures { out.new ≡ tallied (map census_place (leaves 3 tree.node.word)) out.old }
 {
+    let n = tree.node;
     let w = n.word;
     let up = n.conductor - 1;
     let m = words::multiplicity_of(w);
@@ -110,26 +111,21 @@ fn tally_great_grandchildren(n: Node, out: &mut [u64])
     }
 }
 
-// Counts the words `left` levels below a node, each at its place.
-fn tally(n: Node, left: u64, out: &mut [u64])
-    requires node_with_levels { NodeWithLevels left n }
-    requires room_for { RoomFor (length (leaves left n.word)) out.old }
-    ensures { out.new ≡ tallied (map census_place (leaves left n.word)) out.old }
+// Counts the words at the end of a part of the tree, each at its place.
+fn tally(tree: Subtree, out: &mut [u64])
+    requires room_for { RoomFor (length (leaves tree.left tree.node.word)) out.old }
+    ensures { out.new ≡ tallied (map census_place (leaves tree.left tree.node.word)) out.old }
 {
-    if left == 0 {
-        add_one(place_of(n.word), out);
-        return;
-    }
-    if left == 2 && words::multiplicity_of(n.word) < n.conductor {
-        tally_grandchildren(n, out);
-        return;
-    }
-    if left == 3 && n.second_element() < n.conductor {
-        tally_great_grandchildren(n, out);
-        return;
-    }
-    for low in Bits(n.first_row()) {
-        tally(n.child(low.at), left - 1, out);
+    let n = tree.node;
+    match tree.left {
+        0 => add_one(place_of(n.word), out),
+        2 if words::multiplicity_of(n.word) < n.conductor => tally_grandchildren(tree, out),
+        3 if n.second_element() < n.conductor => tally_great_grandchildren(tree, out),
+        _ => {
+            for low in Bits(n.first_row()) {
+                tally(tree.child(low.at), out);
+            }
+        }
     }
 }
 
@@ -160,6 +156,6 @@ pub fn census(genus: u64, out: &mut [u64]) -> Result<u64, Refusal>
         return Err(Refusal::ListTooShort);
     }
     clear_places(out);
-    tally(Node::root(), genus, out);
+    tally(Subtree::of_genus(genus), out);
     Ok(sum_of_conductors(out))
 }

@@ -10,13 +10,12 @@ ghost use Rattle.semigroups.specs.Tree.{leaves};
 ghost use Rattle.seeds.specs.Seeds.{set_below};
 ghost use Rattle.answers.specs.Answers.{sought, sought_answered};
 ghost use Rattle.nodes.specs.Nodes.{node_of};
-ghost use Rattle.nodes.specs.Levels.{NodeWithLevels};
 ghost use Rattle.nodes.specs.Branches.{branches, Offsets};
 ghost use Rattle.search.specs.Wanted.{wanted_list, find_of};
 ghost use Rattle.search.specs.Private.{with_largest_gap};
 
 use answers::{Element, Offset, Refusal};
-use nodes::{Bits, Node};
+use nodes::{Bits, Node, Subtree};
 
 // Is `gap`, which is not below the node's conductor c, a sum of two elements below c? Below 2 c the table tells, by source 001; from 2 c on no
 // number is one. Such a sum is an element of every semigroup below the node.
@@ -35,12 +34,13 @@ fn is_low_sum(n: Node, gap: u64) -> bool
 
 // Of the children of a node at the offsets that are the bits of `rest`, the one whose largest gap is `gap`: the bit at the offset of `gap`
 // decides.
-fn child_with(n: Node, rest: u64, gap: u64) -> Option<u64>
-    requires node_with_levels { NodeWithLevels 1 n }
-    requires offsets { Offsets n.word rest }
-    requires conductor_le_gap { (n.conductor ≤ gap) × (gap ≤ 63) }
-    ensures { sought result ≡ head? (with_largest_gap gap (branches 0 n.word rest)) }
+fn child_with(tree: Subtree, rest: u64, gap: u64) -> Option<u64>
+    requires left { tree.left ≡ 1 }
+    requires offsets { Offsets tree.node.word rest }
+    requires conductor_le_gap { (tree.node.conductor ≤ gap) × (gap ≤ 63) }
+    ensures { sought result ≡ head? (with_largest_gap gap (branches 0 tree.node.word rest)) }
 {
+    let n = tree.node;
     let offset = Offset::of_element(n.conductor, Element(gap));
     if rest >> offset.0 & 1 != 1 {
         return None;
@@ -48,37 +48,39 @@ fn child_with(n: Node, rest: u64, gap: u64) -> Option<u64>
     Some(n.word + (1 << (gap - 1)))
 }
 
-// The first of the words `left` levels below a node, 1 or more, whose largest gap is `gap`.
+// The first of the words at the end of a part of the tree, 1 level or more below its node, whose largest gap is `gap`.
 #[cycle(first_among_first_below)]
-fn first_below(n: Node, left: u64, gap: u64) -> Option<u64>
-    requires node_with_levels { NodeWithLevels left n }
-    requires le_left { (1 ≤ left) × (n.conductor ≤ gap) × (gap ≤ 63) }
-    ensures { sought result ≡ head? (with_largest_gap gap (leaves left n.word)) }
+fn first_below(tree: Subtree, gap: u64) -> Option<u64>
+    requires left { 1 ≤ tree.left }
+    requires conductor_le_gap { (tree.node.conductor ≤ gap) × (gap ≤ 63) }
+    ensures { sought result ≡ head? (with_largest_gap gap (leaves tree.left tree.node.word)) }
 {
+    let n = tree.node;
     if is_low_sum(n, gap) {
         return None;
     }
-    first_among(n, n.first_row(), left - 1, gap)
+    first_among(tree, n.first_row(), gap)
 }
 
-// The same `left` levels below those children of a node whose offsets are the bits of `rest`. After the new gap e of a child there are `left`
+// The same of the words below those children of its node whose offsets are the bits of `rest`. After the new gap e of a child there are `left`
 // gaps to come, so that the largest is at least e + left: where that is above `gap`, it is so for all later children too.
 #[cycle(first_among_first_below)]
-fn first_among(n: Node, rest: u64, left: u64, gap: u64) -> Option<u64>
-    requires node_with_levels { NodeWithLevels (left + 1) n }
-    requires offsets { Offsets n.word rest }
-    requires conductor_le_gap { (n.conductor ≤ gap) × (gap ≤ 63) }
-    ensures { sought result ≡ head? (with_largest_gap gap (branches left n.word rest)) }
+fn first_among(tree: Subtree, rest: u64, gap: u64) -> Option<u64>
+    requires left { 1 ≤ tree.left }
+    requires offsets { Offsets tree.node.word rest }
+    requires conductor_le_gap { (tree.node.conductor ≤ gap) × (gap ≤ 63) }
+    ensures { sought result ≡ head? (with_largest_gap gap (branches (tree.left - 1) tree.node.word rest)) }
 {
+    let left = tree.left - 1;
     if left == 0 {
-        return child_with(n, rest, gap);
+        return child_with(tree, rest, gap);
     }
     for low in Bits(rest) {
-        let e = Element::at_offset(n.conductor, low.at);
+        let e = Element::at_offset(tree.node.conductor, low.at);
         if gap < e.0 + left {
             return None;
         }
-        let found = first_below(n.child(low.at), left, gap);
+        let found = first_below(tree.child(low.at), gap);
         if found.is_some() {
             return found;
         }
@@ -128,7 +130,11 @@ fn first_with(genus: u64, gap: u64, m: u64) -> Option<u64>
         }
         return None;
     }
-    first_among(n, n.first_row() - 1, genus - m, gap)
+    let tree = Subtree {
+        node: n,
+        left: genus - m + 1,
+    };
+    first_among(tree, n.first_row() - 1, gap)
 }
 
 // The word of genus 0 with a largest gap and a multiplicity: the word 0 has -1 and 1.

@@ -1,6 +1,6 @@
 -- `census::census` meets its contract. Assumes nothing.
 use Rattle.std.proofs.Common.{◌≡◌, ℕ, ◌≤◌, List, map, length, sym, ap, ◌∙◌, arith}
-use mathlib.Core.Path.{ap₂, subst, subst₂}
+use mathlib.Core.Path.{ap₂, subst₂}
 use Rattle.semigroups.specs.Lists.{fronted}
 use Rattle.semigroups.specs.Tree.{leaves}
 use Rattle.semigroups.specs.GenusList.{genus_list}
@@ -8,9 +8,7 @@ use Rattle.semigroups.proofs.Lists.{fronted_length}
 use Rattle.semigroups.proofs.Leaves.{genus_list_leaves}
 use Rattle.answers.specs.Answers.{giving}
 use Rattle.nodes.specs.Nodes.{node_of}
-use Rattle.nodes.specs.Levels.{NodeWithLevels}
 use Rattle.nodes.specs.declared.Node.{Node}
-use Rattle.nodes.proofs.Levels.{root_levels}
 use Rattle.census.specs.Census.{census_places}
 use Rattle.census.specs.Private.{census_place, tallied, RoomFor, conductors_in}
 use Rattle.census.proofs.Places.{places_length, census_tallied}
@@ -19,30 +17,27 @@ use Rattle.census.proofs.Theorems.{census_given}
 use Rattle.census.proofs.census.Goals as goal
 use Rattle.census.proofs.census.Goals.{After-tally}
 
--- the words below the root are those of the genus list
-words_below : (g : ℕ) (n : Node) → g ≤ 32 → n ≡ node_of 0 → leaves g n.word ≡ genus_list g
+-- the words at the end of the whole tree are those of the genus list
+words_below : {g left : ℕ} {n : Node} → g ≤ 32 → (n ≡ node_of 0) × (left ≡ g) → leaves left n.word ≡ genus_list g
 unfolding node_of
-words_below g n few root = ap (λ (n : Node). leaves g n.word) root ∙ sym (genus_list_leaves g few)
+words_below {g} few (root, levels) = rw levels (ap (λ (n : Node). leaves g n.word) root ∙ sym (genus_list_leaves g few))
 
 pub tally-requires : goal.tally-requires
 tally-requires c =
-    let g = c.args.genus in
-    let few : g ≤ 32 = c.if-genus-gt32.false in
+    let few : c.args.genus ≤ 32 = c.if-genus-gt32.false in
     record {
-      node_with_levels = subst (NodeWithLevels g) (sym c.root.ensures) (root_levels g few);
       room_for =
-          subst₂ (λ (l o : List ℕ). RoomFor (length l) o) (sym (words_below g _ few c.root.ensures)) (sym c.clear_places.ensures)
-          (room_for_all g few c.args.out.now c.if-out-lt2210.false);
+          subst₂ (λ (l o : List ℕ). RoomFor (length l) o) (sym (words_below few c.of_genus.ensures)) (sym c.clear_places.ensures)
+          (room_for_all c.args.genus few c.args.out.now c.if-out-lt2210.false);
     }
 
 -- the list after the words are counted
 counted : (c : After-tally) → c.tally.new.out ≡ fronted (census_places c.args.genus) c.args.out.now
 counted c =
-    let g = c.args.genus in
-    let few : g ≤ 32 = c.if-genus-gt32.false in
+    let few : c.args.genus ≤ 32 = c.if-genus-gt32.false in
     c.tally.ensures
-    ∙ ap₂ (λ (l o : List ℕ). tallied (map census_place l) o) (words_below g _ few c.root.ensures) c.clear_places.ensures
-    ∙ census_tallied g few c.args.out.now c.if-out-lt2210.false
+    ∙ ap₂ (λ (l o : List ℕ). tallied (map census_place l) o) (words_below few c.of_genus.ensures) c.clear_places.ensures
+    ∙ census_tallied c.args.genus few c.args.out.now c.if-out-lt2210.false
 
 pub sum_of_conductors-requires : goal.sum_of_conductors-requires
 sum_of_conductors-requires c =

@@ -18,37 +18,37 @@ use Rattle.census.proofs.tally_great_grandchildren.Goals.{After-third_row, In-So
 module _ (c : After-third_row) where
   -- a row, moved up
   abbrev moved : ℕ → ℕ
-  moved row = row * 2 ^ (c.args.n.conductor - 1) % 2 ^ 64
+  moved row = row * 2 ^ (c.args.tree.node.conductor - 1) % 2 ^ 64
 
   -- the three rows that were read are those of the node
   rows :
-      ThreeRows c.args.n.word c.multiplicity_of-m.result (c.second_element.result - c.multiplicity_of-m.result)
+      ThreeRows c.args.tree.node.word c.multiplicity_of-m.result (c.second_element.result - c.multiplicity_of-m.result)
       (moved c.first_row.result) (moved c.second_row.result) (moved c.third_row.result)
   rows =
-      node_three_rows _ c.multiplicity_of-m.ensures c.first_row.ensures c.second_row.ensures c.requires.node_with_levels c.requires.word_bound
+      node_three_rows _ c.multiplicity_of-m.ensures c.first_row.ensures c.second_row.ensures (rw c.requires.left at c.args.tree.levels) c.requires.word_bound
       c.second_element.ensures c.third_row.ensures
 
 module _ (c : In-Some) where
   -- the child without the lowest generator that is left has the word with its bit added
-  child : c.args.n.word + 1 * 2 ^ c.in-Some.low.at.0 % 2 ^ 64 ≡ child_word c.args.n.word (suc c.in-Some.low.at.0)
-  child = rw (one_shl c.in-Some.low.at.0 c.in-Some.ensures.steps.0.below) (bit_word c.args.n.word c.in-Some.low.at.0)
+  child : c.args.tree.node.word + 1 * 2 ^ c.in-Some.low.at.0 % 2 ^ 64 ≡ child_word c.args.tree.node.word (suc c.in-Some.low.at.0)
+  child = rw (one_shl c.in-Some.low.at.0 c.in-Some.ensures.steps.0.below) (bit_word c.args.tree.node.word c.in-Some.low.at.0)
 
 pub overflow_sub-up : goal.overflow_sub-up
-overflow_sub-up c = (conductor_within 3 _ c.requires.node_with_levels).0
+overflow_sub-up c = (conductor_within _ _ c.args.tree.levels).0
 
 -- the multiplicity is below the second positive element
 pub overflow_sub-u : goal.overflow_sub-u
 overflow_sub-u c =
-    omega (arith, c.multiplicity_of-m.ensures, c.second_element.ensures, second_above c.args.n.word c.requires.node_with_levels.levels.fits)
+    omega (arith, c.multiplicity_of-m.ensures, c.second_element.ensures, second_above c.args.tree.node.word c.args.tree.levels.levels.fits)
 
 pub overflow_shl-seeds : goal.overflow_shl-seeds
-overflow_shl-seeds c = omega (arith, conductor_within 3 _ c.requires.node_with_levels)
+overflow_shl-seeds c = omega (arith, conductor_within _ _ c.args.tree.levels)
 
 pub overflow_shl-last : goal.overflow_shl-last
-overflow_shl-last c = omega (arith, conductor_within 3 _ c.requires.node_with_levels)
+overflow_shl-last c = omega (arith, conductor_within _ _ c.args.tree.levels)
 
 pub overflow_shl-generators : goal.overflow_shl-generators
-overflow_shl-generators c = omega (arith, conductor_within 3 _ c.requires.node_with_levels)
+overflow_shl-generators c = omega (arith, conductor_within _ _ c.args.tree.levels)
 
 pub loop-low-init : goal.loop-low-init
 loop-low-init c =

@@ -1,6 +1,6 @@
 -- `search::first_with` meets its contract: numbers that are not possible are those of none, and the others are looked for below the first
 -- node of the multiplicity. Assumes nothing.
-use Prim.Native.Nat.{ℕ, ◌-◌, ◌^◌, ◌≤◌}
+use Prim.Native.Nat.{ℕ, ◌+◌, ◌-◌, ◌^◌, ◌≤◌}
 use mathlib.Core.Path.{◌≡◌, sym, ap, ◌∙◌, subst}
 use mathlib.Core.List.{head?}
 use mathlib.Core.Option.{none, some}
@@ -67,17 +67,20 @@ overflow_sub-first_row c =
     let two : 2 ^ 1 ≤ 2 ^ c.args.m = pow_mono positive in
     omega (arith, row c.args.m positive (omega arith) c.first_node-n.ensures c.first_row.ensures)
 
-pub first_among-requires : goal.first_among-requires
-first_among-requires c =
+pub invariant_of-tree : goal.invariant_of-tree
+invariant_of-tree c =
+    record { levels = subst (NodeWithLevels _) (sym c.first_node-n.ensures) (first_node_levels c.args.m (omega arith) (omega arith) _ (omega arith)) }
+
+pub first_among-requires-clause-offsets : goal.first_among-requires-clause-offsets
+first_among-requires-clause-offsets c =
     let m : ℕ = c.args.m in
     let positive : 1 ≤ m = omega arith in
     let most : m ≤ 33 = omega arith in
     let first = c.first_node-n.ensures in
-    record {
-      node_with_levels = subst (NodeWithLevels _) (sym first) (first_node_levels _ positive most _ (omega arith));
-      offsets = rw (word m positive most first, rest m positive most first c.first_row.ensures) (later_offsets _ positive most);
-      conductor_le_gap = omega (arith, conductor m positive most first);
-    }
+    rw (word m positive most first, rest m positive most first c.first_row.ensures) (later_offsets _ positive most)
+
+pub first_among-requires-clause-conductor_le_gap : goal.first_among-requires-clause-conductor_le_gap
+first_among-requires-clause-conductor_le_gap c = omega (arith, conductor c.args.m (omega arith) (omega arith) c.first_node-n.ensures)
 
 pub returns : goal.returns
 returns c =
@@ -85,5 +88,6 @@ returns c =
     let positive : 1 ≤ m = omega arith in
     let most : m ≤ 33 = omega arith in
     let first = c.first_node-n.ensures in
-    rw (word m positive most first, rest m positive most first c.first_row.ensures) at c.first_among.ensures
+    let levels : c.args.genus - m + 1 - 1 ≡ c.args.genus - m = omega arith in
+    rw (word m positive most first, rest m positive most first c.first_row.ensures, levels) at c.first_among.ensures
     ∙ sym (ap head? (wanted_below _ _ _ (omega arith) (omega arith) (omega arith)))
