@@ -1,12 +1,13 @@
 -- What the calls of saved jobs answer, question by question. Assumes nothing.
 use Prim.Native.Nat.{ℕ, ◌<◌}
-use mathlib.Core.Path.{◌≡◌, refl, sym, ◌∙◌}
+use mathlib.Core.Path.{◌≡◌, refl, sym, ap, ◌∙◌}
 use mathlib.Core.Bool.{Bool, true, false, not, cond, ◌&&◌}
 use Rattle.std.specs.Prelude.{if◌then◌else◌, Option, Some, None, unwrap_or}
 use mathlib.Core.List.{List, []}
 use lib.ListN.{length}
 use lib.Dec.{eqb, leb}
 use borrow.Author.Tests.{leb-true}
+use Rattle.semigroups.specs.Lists.{none}
 use Rattle.semigroups.specs.Words.{bit}
 use Rattle.semigroups.proofs.Booleans.{by_value}
 use Rattle.answers.specs.Answers.{Answer, refused, given, ask, unchanged, into_lent}
@@ -41,6 +42,27 @@ unfolding fresh_in_of saved_of standing
 fresh_saved g lo hi n =
     by_value (leb g 32) (λ e. rw (e, standing_in_order g lo hi [] (leb-true g 32 e) (window_list g lo hi) refl))
     (λ e. rw e)
+
+-- values of the genus and of the window that the fields say
+module _ (m : ℕ) (value : ℕ → ℕ) (g lo hi : ℕ) (genus_said : g ≡ value 0) (lowest-said : lo ≡ value_or 1 m value 1) (highest-said : hi ≡ value_or 33 m value 2) where
+  -- with the finished mark, a finished walk
+  pub said_finished : bit m 5 ≡ true → record { genus = g; word = 0; window = record { lowest = lo; highest = hi }; finished = true } ≡ walk_said m value
+  unfolding walk_said placed_by standing none
+  said_finished e = rw e (λ i. record { genus = genus_said i; word = 0; window = record { lowest = lowest-said i; highest = highest-said i }; finished = true })
+
+  -- with a next word, a walk on it
+  pub said_on_word : (x : ℕ) → x ≡ value 3 → bit m 5 ≡ false → bit m 3 ≡ true
+      → record { genus = g; word = x; window = record { lowest = lo; highest = hi }; finished = false } ≡ walk_said m value
+  unfolding walk_said placed_by
+  said_on_word x word-said e f = rw (e, f) (λ i. record { genus = genus_said i; word = word-said i; window = record { lowest = lowest-said i; highest = highest-said i }; finished = false })
+
+  -- with neither, the fresh walk, which is in order
+  pub said_fresh : (n : ℕ) → bit m 5 ≡ false → bit m 3 ≡ false → with_written n (fresh_in_of g lo hi) ≡ saved_of (walk_said m value) n
+  unfolding walk_said placed_by
+  said_fresh n e f =
+      ap (λ (a : Answer Walk). with_written n a) (λ i. fresh_in_of (genus_said i) (lowest-said i) (highest-said i))
+      ∙ fresh_saved (value 0) (value_or 1 m value 1) (value_or 33 m value 2) n
+      ∙ rw (e, f)
 
 -- by the parts of the fields
 pub fields_say_parts : (f : Fields) {genus word : Option ℕ} {finished : Bool} {lo hi n : ℕ} → f.genus ≡ genus → f.word ≡ word → f.finished ≡ finished
