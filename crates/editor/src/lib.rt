@@ -12,7 +12,8 @@ ghost use Rattle.editor.specs.Private.{without_place, with_answer};
 
 use answers::Refusal;
 
-// Sixteen places, of which the first `length` are held, and the answer of the call for a word from generators for these.
+// Sixteen places, of which the first `length` are held, and the answer of the call for a word from generators for these. Callers in C hand over any
+// places, length and answer, and question 14 is asked of them (`is_right`): so the length stands beside the places.
 #[derive(Clone, Copy, Debug, PartialEq, Eq)]
 pub struct Editor {
     pub bytes: [u8; 16],

@@ -1,6 +1,6 @@
 // Binomials in a table.
 
-// Rows 0 to 31 of 32 places: place k of row n is the binomial of n over k.
+// One list of 1,024 numbers, as the scope of the atlas names it: rows 0 to 31 of 32 places, and place k of row n is the binomial of n over k.
 pub const PASCAL: [u64; 1024] = [
     // row 0
     1, 0, 0, 0, 0, 0, 0, 0, 0, 0, 0, 0, 0, 0, 0, 0, 0, 0, 0, 0, 0, 0, 0, 0, 0, 0, 0, 0, 0, 0, 0, 0,

@@ -47,7 +47,8 @@ fn standing_bits(bits: u64) -> usize
     bits.count_ones() as usize
 }
 
-// The minimal generators of the word of a node into the lent list: those below the conductor, and those that row 0 of the table tells.
+// The minimal generators of the word of a node into the lent list: those below the conductor, and those that row 0 of the table tells. No number of
+// levels goes with the node, so that it is no `Subtree`.
 fn generators_of(n: Node, out: &mut [u8]) -> Result<u64, Refusal>
     requires { NodeWithLevels 0 n }
     ensures { listed result out.new ≡ generators_of n.word out.old }

@@ -1,6 +1,6 @@
 // What callers in C, and in languages that call C, get of the answers of the atlas, and the walk and the list of generators that they hand over. An
 // answer is a struct by value: first, of a call that can be refused, the number of the refusal, 0 where there is none, then the values, all 0 where
-// the call is refused.
+// the call is refused. C has no enums with values: so the number of a refusal, and whether there is a word, stand beside the values.
 #![tactic(auto)]
 
 ghost use Rattle.std.specs.Prelude.{◌≡◌, if◌then◌else◌, Some, None};

@@ -149,10 +149,10 @@ fn byte_in(job: &[u8], at: usize) -> Option<u8>
     requires job_len { length job.now ≡ job_length (map_in job.now) }
     ensures { result ≡ field_or_none job.now at }
 {
-    if !stands(job[0], at) {
-        return None;
+    match word_in(job, at) {
+        Some(value) => Some(value as u8),
+        None => None,
     }
-    Some(field_in(job, at) as u8)
 }
 
 // The fields of a job that is as long as its bit map says.

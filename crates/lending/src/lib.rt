@@ -12,7 +12,8 @@ pub struct NoRoom {
     pub next: u64,
 }
 
-// Writes one word, if the list has the place, and gives the place after it.
+// Writes one word, if the list has the place, and gives the place after it. The list and the place are two parameters: what would hold both has to
+// be lent to each call and asked for the place after it, where `?` gives it.
 #[tactic(auto, unfolding(crate::specs::Lending::put_all, crate::specs::Lending::put_one))]
 pub fn put(word: u64, at: usize, out: &mut [u64]) -> Result<usize, NoRoom>
     ensures { (out.new, result) ≡ put_all (word ∷ []) (out.old, Ok at) }

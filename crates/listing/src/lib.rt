@@ -19,14 +19,15 @@ pub struct Listing {
     pub walk: Walk,
 }
 
-// What is told of a page: how many bytes it has, and whether it is the last.
+// What is told of a page: how many bytes it has, and whether it is the last. Both are told of every page.
 #[derive(Clone, Copy, Debug, PartialEq, Eq)]
 pub struct Page {
     pub bytes: usize,
     pub finished: bool,
 }
 
-// Writes the two digits of a number below 100, and gives the place after them.
+// Writes the two digits of a number below 100, and gives the place after them. Here and below the list and the place are two parameters: what would
+// hold both has to be lent to each call and asked for the place after it.
 #[tactic(auto, unfolding(crate::specs::Writing::pair_of))]
 fn put_pair(out: &mut [u8], at: usize, n: u8) -> usize
     requires { at + 2 ≤ length out.old }

@@ -251,7 +251,7 @@ pub struct Lowest {
     pub rest: u64,
 }
 
-// Takes the lowest of some offsets off; where there are none, it gives 64 and 0.
+// Takes the lowest of some offsets off; where there are none, it gives 64 and 0. Its callers ask for none first; `Bits` gives an `Option`.
 pub fn lowest_of(bits: u64) -> Lowest
     ensures { (result.at.0 ≡ lowest_offset bits) × (result.rest ≡ bits - 2 ^ lowest_offset bits) }
 {

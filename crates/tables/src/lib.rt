@@ -51,7 +51,7 @@ pub fn seed_table(word: u64) -> Result<Table, Refusal>
 }
 
 // The word without an element, from the node of a word of genus 31 at most: refused where the element is no generator or is below
-// the conductor.
+// the conductor. No number of levels goes with the node, so that it is no `Subtree`.
 fn removed(n: Node, element: Element) -> Result<u64, Refusal>
     requires { NodeWithLevels 1 n }
     ensures { answered result ≡ child_of n.word element.0 }

@@ -18,7 +18,7 @@ pub struct Walk {
     pub finished: bool,
 }
 
-// What a batch reports: the number of words written, and whether none are left.
+// What a batch reports: the number of words written, and whether none are left. Both are told of every batch.
 #[derive(Clone, Copy, Debug, PartialEq, Eq)]
 pub struct Written {
     pub count: usize,
