@@ -18,7 +18,7 @@ mod subtree;
 pub use subtree::Subtree;
 
 // A semigroup under way: its word, its seed table and its conductor, which is that of source 000.
-#[derive(Clone, Copy)]
+#[derive(Clone, Copy, Debug, PartialEq, Eq)]
 pub struct Node {
     pub word: u64,
     pub table: u64,
@@ -245,7 +245,7 @@ impl Node {
 }
 
 // The lowest of some offsets, which are the bits of a number, and the others.
-#[derive(Clone, Copy)]
+#[derive(Clone, Copy, Debug, PartialEq, Eq)]
 pub struct Lowest {
     pub at: Offset,
     pub rest: u64,

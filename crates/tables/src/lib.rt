@@ -12,7 +12,7 @@ use answers::{Element, Offset, Refusal};
 use nodes::Node;
 
 // A seed table, and the number of 1s in its row 0: of the generators not below the conductor.
-#[derive(Clone, Copy)]
+#[derive(Clone, Copy, Debug, PartialEq, Eq)]
 pub struct Table {
     pub table: u64,
     pub generators: u64,

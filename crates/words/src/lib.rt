@@ -12,7 +12,7 @@ ghost use Rattle.words.specs.Looks.{report_of, look_of};
 use answers::Refusal;
 
 // What is told of a word: the conductor is the reported one, 0 where there is no gap, and the largest gap is then -1.
-#[derive(Clone, Copy)]
+#[derive(Clone, Copy, Debug, PartialEq, Eq)]
 pub struct Report {
     pub genus: u64,
     pub multiplicity: u64,
@@ -21,7 +21,7 @@ pub struct Report {
 }
 
 // The conductor of source 000 and the multiplicity of a word, accepted or not.
-#[derive(Clone, Copy)]
+#[derive(Clone, Copy, Debug, PartialEq, Eq)]
 pub struct ConductorAndMultiplicity {
     pub conductor: u64,
     pub multiplicity: u64,
