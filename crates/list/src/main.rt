@@ -16,8 +16,7 @@ fn write_headers(rt: &impl Print) -> io::Result<()> {
 }
 
 // Writes the pages of a listing, until one is the last.
-fn write_pages(rt: &impl Print, start: Listing) -> io::Result<()> {
-    let mut listing = start;
+fn write_pages(rt: &impl Print, mut listing: Listing) -> io::Result<()> {
     let mut out = [0; 65536];
     loop {
         match listing::next_page(&mut listing, &mut out) {
@@ -35,7 +34,7 @@ fn write_pages(rt: &impl Print, start: Listing) -> io::Result<()> {
 // Writes the listing of a genus.
 fn write_listing(rt: &impl Print, genus: u64) -> io::Result<()> {
     match listing::fresh(genus) {
-        Ok(start) => write_pages(rt, start),
+        Ok(listing) => write_pages(rt, listing),
         Err(refusal) => console::write_refusal_line(rt, refusal),
     }
 }

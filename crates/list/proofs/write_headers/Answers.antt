@@ -5,9 +5,9 @@ use Rattle.listing.proofs.HeaderLines.{headers_given}
 use Rattle.list.proofs.write_headers.Goals as goal
 
 pub slice_bounds-lines-end : goal.slice_bounds-lines-end
-slice_bounds-lines-end g c = omega (arith, headers_given _ _ c.headers-answer.ensures c.in-Given.is)
+slice_bounds-lines-end g c = omega (arith, headers_given _ _ c.headers.ensures c.in-Ok.is)
 
 pub slice_bounds-write_all-end : goal.slice_bounds-write_all-end
 slice_bounds-write_all-end g c =
-    let within = headers_given _ _ c.headers-answer.ensures c.in-Given.is in
+    let within = headers_given _ _ c.headers.ensures c.in-Ok.is in
     sym (length-take-le _ _ (omega arith))
