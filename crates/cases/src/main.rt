@@ -12,7 +12,10 @@ use words::Report;
 
 // Genus, multiplicity, reported conductor and largest gap.
 fn write_report(rt: &impl Print, report: Report) -> io::Result<()> {
-    print!(rt; " {} {} {} {}", report.genus, report.multiplicity, report.conductor, report.largest_gap)
+    print!(rt;
+        " {} {} {} {}",
+        report.genus, report.multiplicity, report.conductor, report.largest_gap
+    )
 }
 
 // A number that was looked for, or that there is none.
@@ -50,7 +53,10 @@ fn show_told(rt: &impl Print, word: u64) -> io::Result<()> {
 // Conductor and multiplicity of a word, accepted or not.
 fn show_both(rt: &impl Print, word: u64) -> io::Result<()> {
     let both = words::conductor_and_multiplicity(word);
-    println!(rt; "conductor and multiplicity {word}: {} {}", both.conductor, both.multiplicity)
+    println!(rt;
+        "conductor and multiplicity {word}: {} {}",
+        both.conductor, both.multiplicity
+    )
 }
 
 // How many gaps the shortest impossible opening of a word has.
@@ -177,12 +183,12 @@ fn ends_of_range(rt: &impl Print) -> io::Result<()> {
 }
 
 // The next words of a walk, at most eight, by batches of one, and its mark where none are left.
-fn show_words(rt: &impl Print, first: Walk) -> io::Result<()> {
-    let mut walk = first;
+fn show_words(rt: &impl Print, mut walk: Walk) -> io::Result<()> {
     for _ in 0..8 {
-        let mut list = [0u64; 1];
-        let Ok(written) = walk::batch(&mut walk, &mut list) else {
-            return Ok(());
+        let mut list = [0; 1];
+        let written = match walk::batch(&mut walk, &mut list) {
+            Ok(written) => written,
+            Err(refusal) => return write_refused(rt, refusal),
         };
         if written.count == 1 {
             print!(rt; " {}", list[0])?;
