@@ -4,26 +4,29 @@
 #![tactic(auto)]
 
 use console::write_answer;
+use listing::Listing;
 use requests::Request;
 use std::io;
 
-// The first bytes of a list, as many as a call tells.
+// The first bytes of a list, as many as a call tells, at most all.
 fn write_front(rt: &impl Print, list: &[u8], length: usize) -> io::Result<()> {
-    match list.get(..length) {
-        Some(front) => rt.write_all(front),
-        None => Ok(()),
-    }
+    rt.write_all(&list[..length.min(list.len())])
 }
 
-// The first page of the listing of a genus, in a list of 200 places: the header, and at most six lines.
-fn show_listing(rt: &impl Print, genus: u64) -> io::Result<()> {
-    let Ok(mut listing) = listing::fresh(genus) else {
-        return Ok(());
-    };
+// The first page of a listing, in a list of 200 places: the header, and at most six lines.
+fn show_page(rt: &impl Print, mut listing: Listing) -> io::Result<()> {
     let mut out = [0; 200];
     match listing::next_page(&mut listing, &mut out) {
         Ok(page) => write_front(rt, &out, page.bytes),
-        Err(_) => Ok(()),
+        Err(refusal) => console::write_refusal_line(rt, refusal),
+    }
+}
+
+// The first page of the listing of a genus.
+fn show_listing(rt: &impl Print, genus: u64) -> io::Result<()> {
+    match listing::fresh(genus) {
+        Ok(listing) => show_page(rt, listing),
+        Err(refusal) => console::write_refusal_line(rt, refusal),
     }
 }
 
@@ -32,7 +35,7 @@ fn show_header_lines(rt: &impl Print) -> io::Result<()> {
     let mut out = [0; 1024];
     match listing::headers(&mut out) {
         Ok(length) => write_front(rt, &out, length as usize),
-        Err(_) => Ok(()),
+        Err(refusal) => console::write_refusal_line(rt, refusal),
     }
 }
 
