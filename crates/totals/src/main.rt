@@ -4,6 +4,7 @@
 #![tactic(auto)]
 
 use answers::Refusal;
+use console::{write_answer, write_refused};
 use std::io;
 use walk::Walk;
 use windows::Window;
@@ -11,31 +12,22 @@ use windows::Window;
 // ---- totals
 
 // The number of words that a walk writes in batches into the lent list, at most `most` batches.
-fn walked_into(first: Walk, most: u64, list: &mut [u64]) -> u64 {
-    let mut walk = first;
+fn walked_into(mut walk: Walk, most: u64, list: &mut [u64]) -> Result<u64, Refusal> {
     let mut total: u64 = 0;
     for _ in 0..most {
-        let Ok(written) = walk::batch(&mut walk, list) else {
-            return total;
-        };
+        let written = walk::batch(&mut walk, list)?;
         total = total.wrapping_add(written.count as u64);
         if written.finished {
-            return total;
+            break;
         }
     }
-    total
+    Ok(total)
 }
 
 // The same of a walk that a fresh call gave, with lists of a size, at most 4,095.
-fn walked(first: Result<Walk, Refusal>, most: u64, size: usize) -> u64 {
-    let Ok(walk) = first else {
-        return 0;
-    };
+fn walked(begun: Result<Walk, Refusal>, most: u64, size: usize) -> Result<u64, Refusal> {
     let mut list = [0; 4095];
-    match list.get_mut(..size) {
-        Some(lent) => walked_into(walk, most, lent),
-        None => 0,
-    }
+    walked_into(begun?, most, &mut list[..size.min(4095)])
 }
 
 // An odd size of lists for a genus.
@@ -43,14 +35,20 @@ fn odd_size(genus: u64) -> usize {
     (genus % 33) as usize * 124 + 3
 }
 
+// The total of a genus by the count call, and by a walk of at most as many batches.
+fn show_total(rt: &impl Print, genus: u64) -> io::Result<()> {
+    print!(rt; "genus {genus}: count")?;
+    let count = counts::count(0, genus);
+    write_answer(rt, count)?;
+    print!(rt; " walked")?;
+    let walked = walked(walk::fresh(genus), count.unwrap_or(0), odd_size(genus));
+    write_answer(rt, walked)?;
+    println!(rt;)
+}
+
 fn totals(rt: &impl Print) -> io::Result<()> {
     for genus in 0..33 {
-        print!(rt; "genus {genus}: count")?;
-        if let Ok(n) = counts::count(0, genus) {
-            let walked = walked(walk::fresh(genus), n, odd_size(genus));
-            print!(rt; " {n} walked {walked}")?;
-        }
-        println!(rt;)?;
+        show_total(rt, genus)?;
     }
     Ok(())
 }
@@ -62,8 +60,9 @@ fn windows(rt: &impl Print) -> io::Result<()> {
             lowest: m,
             highest: m,
         };
-        let walked = walked(walk::fresh_in(20, window), 50000, 7);
-        println!(rt; "genus 20 multiplicity {m}: walked {walked}")?;
+        print!(rt; "genus 20 multiplicity {m}: walked")?;
+        write_answer(rt, walked(walk::fresh_in(20, window), 50000, 7))?;
+        println!(rt;)?;
     }
     Ok(())
 }
@@ -71,7 +70,7 @@ fn windows(rt: &impl Print) -> io::Result<()> {
 // ---- a plain search of gap sets, compared word by word with a walk
 
 // A search under way: the walk that it is compared with, the closed gap sets found, and the places where the two differ.
-#[derive(Clone, Copy)]
+#[derive(Drop)]
 struct Progress {
     walk: Walk,
     found: u64,
@@ -79,13 +78,7 @@ struct Progress {
 }
 
 fn is_gap(word: u64, x: u64) -> bool {
-    if x == 0 {
-        return false;
-    }
-    if 64 < x {
-        return false;
-    }
-    word >> (x - 1) & 1 == 1
+    0 < x && x <= 64 && word >> (x - 1) & 1 == 1
 }
 
 // Is x a sum of two positive elements, by trying them all?
@@ -99,47 +92,39 @@ fn closed_up_to(word: u64, top: u64) -> bool {
 }
 
 // A gap set that the search made: where it is closed, the walk must give it next.
-fn compared(word: u64, top: u64, s: Progress) -> Progress {
+fn compare(word: u64, top: u64, progress: &mut Progress) {
     if !closed_up_to(word, top) {
-        return s;
+        return;
     }
+    progress.found = progress.found.wrapping_add(1);
     let mut list = [0; 1];
-    let mut walk = s.walk;
-    // Where the walk is refused nothing is written, and the places differ.
-    let _ = walk::batch(&mut walk, &mut list);
-    let different = if list[0] == word { 0 } else { 1 };
-    Progress {
-        walk,
-        found: s.found.wrapping_add(1),
-        different: s.different.wrapping_add(different),
+    let moved = walk::batch(&mut progress.walk, &mut list);
+    if moved.is_err() || list[0] != word {
+        progress.different = progress.different.wrapping_add(1);
     }
 }
 
 // All gap sets with `left` gaps more, from x + 1 to `top`, in list order.
-fn search(word: u64, left: u64, x: u64, top: u64, s: Progress) -> Progress {
+fn search(word: u64, left: u64, x: u64, top: u64, progress: &mut Progress) {
     if left == 0 {
-        return compared(word, top, s);
+        compare(word, top, progress);
+    } else if x < 64 && x < top {
+        search(word | 1 << x, left - 1, x + 1, top, progress);
+        search(word, left, x + 1, top, progress);
     }
-    if 63 < x {
-        return s;
-    }
-    if top <= x {
-        return s;
-    }
-    let with = search(word | (1 << x), left - 1, x + 1, top, s);
-    search(word, left, x + 1, top, with)
 }
 
 // The search of a genus, compared with a walk.
-fn search_of(rt: &impl Print, genus: u64, first: Walk) -> io::Result<()> {
-    let start = Progress {
-        walk: first,
+fn search_of(rt: &impl Print, genus: u8, walk: Walk) -> io::Result<()> {
+    let mut progress = Progress {
+        walk,
         found: 0,
         different: 0,
     };
-    let end = search(0, genus, 0, 2 * genus, start);
-    print!(rt; " {} found, {} differ", end.found, end.different)?;
-    if !end.walk.finished {
+    let gaps = u64::from(genus);
+    search(0, gaps, 0, 2 * gaps, &mut progress);
+    print!(rt; " {} found, {} differ", progress.found, progress.different)?;
+    if !progress.walk.finished {
         print!(rt; ", unfinished")?;
     }
     Ok(())
@@ -148,8 +133,9 @@ fn search_of(rt: &impl Print, genus: u64, first: Walk) -> io::Result<()> {
 fn searches(rt: &impl Print) -> io::Result<()> {
     for genus in 0..13 {
         print!(rt; "search of genus {genus}:")?;
-        if let Ok(first) = walk::fresh(genus) {
-            search_of(rt, genus, first)?;
+        match walk::fresh(u64::from(genus)) {
+            Ok(walk) => search_of(rt, genus, walk)?,
+            Err(refusal) => write_refused(rt, refusal)?,
         }
         println!(rt;)?;
     }
