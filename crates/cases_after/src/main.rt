@@ -3,107 +3,81 @@
 // which was computed apart from the plain definitions.
 #![tactic(auto)]
 
-use answers::{NumberAnswer, Refusal};
-use editor::{ChangeAnswer, Changed, Editor};
-use jobs::JobAnswer;
+use answers::Refusal;
+use console::{write_answer, write_refused};
+use editor::Editor;
 use std::io;
 use walk::Walk;
-
-fn text(rt: &impl Print, bytes: &[u8]) -> io::Result<()> {
-    rt.write_all(bytes)
-}
-
-// A blank and a number.
-fn field(rt: &impl Print, n: u64) -> io::Result<()> {
-    text(rt, b" ")?;
-    rt.print(n)
-}
+use windows::Window;
 
 // A blank and a number for each byte.
-fn bytes(rt: &impl Print, list: &[u8]) -> io::Result<()> {
-    for i in 0..list.len() {
-        field(rt, wide(list[i]))?;
+fn write_bytes(rt: &impl Print, list: &[u8]) -> io::Result<()> {
+    for byte in list {
+        print!(rt; " {byte}")?;
     }
     Ok(())
 }
 
-fn wide(x: u8) -> u64 {
-    x as u64
-}
-
-fn refusal(rt: &impl Print, r: Refusal) -> io::Result<()> {
-    text(rt, b" refused")?;
-    field(rt, r.number())
-}
-
-// A colon and a number, or the number of a refusal, at the end of a line.
-fn answer(rt: &impl Print, a: NumberAnswer) -> io::Result<()> {
-    text(rt, b":")?;
-    match a {
-        NumberAnswer::Refused(r) => refusal(rt, r)?,
-        NumberAnswer::Given(n) => field(rt, n)?,
+// The same for the first bytes of a list, as many as are told; for none where it has fewer.
+fn write_front(rt: &impl Print, list: &[u8], length: usize) -> io::Result<()> {
+    match list.get(..length) {
+        Some(front) => write_bytes(rt, front),
+        None => Ok(()),
     }
-    text(rt, b"\n")
 }
 
-// The first n bytes of a list.
-fn first_bytes(rt: &impl Print, list: &[u8], n: usize) -> io::Result<()> {
-    if n <= list.len() {
-        bytes(rt, &list[..n])?;
-    }
-    Ok(())
+// A colon, the answer of a call and the end of the line.
+fn write_end(rt: &impl Print, answer: Result<u64, Refusal>) -> io::Result<()> {
+    print!(rt; ":")?;
+    write_answer(rt, answer)?;
+    println!(rt;)
 }
 
 // The bytes that a call listed, and its answer.
-fn listed(rt: &impl Print, a: NumberAnswer, list: &[u8]) -> io::Result<()> {
-    if let NumberAnswer::Given(n) = a {
-        text(rt, b" are")?;
-        first_bytes(rt, list, n as usize)?;
+fn write_listed(rt: &impl Print, answer: Result<u64, Refusal>, list: &[u8]) -> io::Result<()> {
+    if let Ok(length) = answer {
+        print!(rt; " are")?;
+        write_front(rt, list, length as usize)?;
     }
-    answer(rt, a)
+    write_end(rt, answer)
 }
 
 fn show_generators(rt: &impl Print, word: u64) -> io::Result<()> {
-    text(rt, b"generators of")?;
-    field(rt, word)?;
-    let mut list = [0u8; 33];
-    let a = generators::generators(word, &mut list);
-    listed(rt, a, &list)
+    print!(rt; "generators of {word}")?;
+    let mut list = [0; 33];
+    let answer = generators::generators(word, &mut list);
+    write_listed(rt, answer, &list)
 }
 
 fn show_word_from(rt: &impl Print, list: &[u8]) -> io::Result<()> {
-    text(rt, b"word from")?;
-    bytes(rt, list)?;
-    answer(rt, sums::word_from(list))
+    print!(rt; "word from")?;
+    write_bytes(rt, list)?;
+    write_end(rt, sums::word_from(list))
 }
 
 fn show_elementary(rt: &impl Print, frobenius: u64, genus: u64) -> io::Result<()> {
-    text(rt, b"elementary")?;
-    field(rt, frobenius)?;
-    field(rt, genus)?;
-    answer(rt, elementary::elementary(frobenius, genus))
+    print!(rt; "elementary {frobenius} {genus}")?;
+    write_end(rt, elementary::elementary(frobenius, genus))
 }
 
 fn show_coordinates(rt: &impl Print, word: u64) -> io::Result<()> {
-    text(rt, b"coordinates of")?;
-    field(rt, word)?;
-    let mut list = [0u8; 32];
-    let a = kunz::coordinates(word, &mut list);
-    listed(rt, a, &list)
+    print!(rt; "coordinates of {word}")?;
+    let mut list = [0; 32];
+    let answer = kunz::coordinates(word, &mut list);
+    write_listed(rt, answer, &list)
 }
 
 fn show_word_from_coordinates(rt: &impl Print, list: &[u8]) -> io::Result<()> {
-    text(rt, b"word from coordinates")?;
-    bytes(rt, list)?;
-    answer(rt, kunz::word_from_coordinates(list))
+    print!(rt; "word from coordinates")?;
+    write_bytes(rt, list)?;
+    write_end(rt, kunz::word_from_coordinates(list))
 }
 
 // The places of a list that are not 0, each with its number.
-fn places(rt: &impl Print, list: &[u64]) -> io::Result<()> {
-    for i in 0..list.len() {
-        if list[i] != 0 {
-            field(rt, i as u64)?;
-            field(rt, list[i])?;
+fn write_places(rt: &impl Print, list: &[u64]) -> io::Result<()> {
+    for (place, &n) in list.iter().enumerate() {
+        if n != 0 {
+            print!(rt; " {place} {n}")?;
         }
     }
     Ok(())
@@ -111,101 +85,84 @@ fn places(rt: &impl Print, list: &[u64]) -> io::Result<()> {
 
 // The census in a lent list, and then the places that are not 0.
 fn show_census_in(rt: &impl Print, genus: u64, list: &mut [u64]) -> io::Result<()> {
-    text(rt, b"census of")?;
-    field(rt, genus)?;
-    text(rt, b" in")?;
-    field(rt, list.len() as u64)?;
-    let a = census::census(genus, list);
-    if let NumberAnswer::Given(_) = a {
-        text(rt, b" has")?;
-        places(rt, list)?;
+    let size = list.len();
+    print!(rt; "census of {genus} in {size}")?;
+    let answer = census::census(genus, list);
+    if answer.is_ok() {
+        print!(rt; " has")?;
+        write_places(rt, list)?;
     }
-    answer(rt, a)
+    write_end(rt, answer)
 }
 
 // The same with so many places, at most 2,212, that are lent with a 7 each.
 fn show_census(rt: &impl Print, genus: u64, size: usize) -> io::Result<()> {
-    let mut list = [7u64; 2212];
-    if 2212 < size {
-        return Ok(());
-    }
-    show_census_in(rt, genus, &mut list[..size])
+    let mut list = [7; 2212];
+    show_census_in(rt, genus, &mut list[..size.min(2212)])
 }
 
 // What a change gives: its refusal where it is refused, the bytes that are held then, and the kept answer.
-fn show_change(rt: &impl Print, changed: Changed) -> io::Result<Editor> {
-    let change = changed.answer;
-    if let ChangeAnswer::Refused(r) = change {
-        text(rt, b" is")?;
-        refusal(rt, r)?;
+fn write_change(rt: &impl Print, change: Result<(), Refusal>, editor: &Editor) -> io::Result<()> {
+    if let Err(refusal) = change {
+        print!(rt; " is")?;
+        write_refused(rt, refusal)?;
     }
-    let after = changed.editor;
-    let places = after.bytes;
-    let length = after.length;
-    text(rt, b" holds")?;
-    first_bytes(rt, &places, length)?;
-    let kept = after.answer;
-    answer(rt, kept)?;
-    Ok(after)
+    print!(rt; " holds")?;
+    write_front(rt, &editor.bytes, editor.length)?;
+    write_end(rt, editor.answer)
 }
 
 // Adds a byte, and shows what there is then.
-fn show_add(rt: &impl Print, state: Editor, byte: u8) -> io::Result<Editor> {
-    text(rt, b"add")?;
-    field(rt, wide(byte))?;
-    show_change(rt, editor::add(state, byte))
+fn show_add(rt: &impl Print, editor: &mut Editor, byte: u8) -> io::Result<()> {
+    print!(rt; "add {byte}")?;
+    let change = editor::add(editor, byte);
+    write_change(rt, change, editor)
 }
 
 // Removes a byte, and shows what there is then.
-fn show_remove(rt: &impl Print, state: Editor, byte: u8) -> io::Result<Editor> {
-    text(rt, b"remove")?;
-    field(rt, wide(byte))?;
-    show_change(rt, editor::remove(state, byte))
+fn show_remove(rt: &impl Print, editor: &mut Editor, byte: u8) -> io::Result<()> {
+    print!(rt; "remove {byte}")?;
+    let change = editor::remove(editor, byte);
+    write_change(rt, change, editor)
 }
 
-// Adds four bytes, and shows what there is after each.
-fn show_four(rt: &impl Print, state: Editor, a: u8, b: u8, c: u8, d: u8) -> io::Result<Editor> {
-    let first = show_add(rt, state, a)?;
-    let second = show_add(rt, first, b)?;
-    let third = show_add(rt, second, c)?;
-    show_add(rt, third, d)
+// Adds bytes, and shows what there is after each.
+fn show_additions(rt: &impl Print, editor: &mut Editor, bytes: &[u8]) -> io::Result<()> {
+    for &byte in bytes {
+        show_add(rt, editor, byte)?;
+    }
+    Ok(())
 }
 
-// The fields of a walk.
-fn walk_fields(rt: &impl Print, walk: Walk) -> io::Result<()> {
-    field(rt, walk.genus)?;
-    field(rt, walk.word)?;
-    field(rt, wide(walk.lowest))?;
-    field(rt, wide(walk.highest))?;
-    field(rt, walk.finished as u64)
+// The fields of a walk, and the number written.
+fn write_saved(rt: &impl Print, walk: Walk, written: u64) -> io::Result<()> {
+    let Window { lowest, highest } = walk.window;
+    let finished = u8::from(walk.finished);
+    print!(rt;
+        " {} {} {lowest} {highest} {finished} with {written}",
+        walk.genus, walk.word
+    )
 }
 
 // The job of a walk and a number written, in a list of 21 places.
 fn show_job(rt: &impl Print, walk: Walk, written: u64) -> io::Result<()> {
-    text(rt, b"job of")?;
-    walk_fields(rt, walk)?;
-    text(rt, b" with")?;
-    field(rt, written)?;
-    let mut list = [7u8; 21];
-    let a = jobs::write(walk, written, &mut list);
-    listed(rt, a, &list)
+    print!(rt; "job of")?;
+    write_saved(rt, walk, written)?;
+    let mut list = [7; 21];
+    let answer = jobs::write(walk, written, &mut list);
+    write_listed(rt, answer, &list)
 }
 
 // The walk and the number written that a job keeps.
 fn show_read(rt: &impl Print, job: &[u8]) -> io::Result<()> {
-    text(rt, b"read")?;
-    bytes(rt, job)?;
-    text(rt, b":")?;
-    let a = jobs::read(job);
-    match a {
-        JobAnswer::Refused(r) => refusal(rt, r)?,
-        JobAnswer::Given(saved) => {
-            walk_fields(rt, saved.walk)?;
-            text(rt, b" with")?;
-            field(rt, saved.written)?;
-        }
+    print!(rt; "read")?;
+    write_bytes(rt, job)?;
+    print!(rt; ":")?;
+    match jobs::read(job) {
+        Ok(saved) => write_saved(rt, saved.walk, saved.written)?,
+        Err(refusal) => write_refused(rt, refusal)?,
     }
-    text(rt, b"\n")
+    println!(rt;)
 }
 
 fn generators_out(rt: &impl Print) -> io::Result<()> {
@@ -304,77 +261,73 @@ fn refused_coordinates(rt: &impl Print) -> io::Result<()> {
 
 // 6, 10, 6, of which the first 6 is removed; changes that are refused; then 55 and 15, with which there is a word.
 fn short_history(rt: &impl Print) -> io::Result<()> {
-    let mut state = editor::empty();
-    state = show_add(rt, state, 6)?;
-    state = show_add(rt, state, 10)?;
-    state = show_add(rt, state, 6)?;
-    state = show_remove(rt, state, 6)?;
-    state = show_add(rt, state, 0)?;
-    state = show_remove(rt, state, 7)?;
-    state = show_remove(rt, state, 0)?;
-    state = show_add(rt, state, 55)?;
-    state = show_add(rt, state, 15)?;
-    show_remove(rt, state, 15)?;
-    Ok(())
+    let mut editor = editor::empty();
+    show_add(rt, &mut editor, 6)?;
+    show_add(rt, &mut editor, 10)?;
+    show_add(rt, &mut editor, 6)?;
+    show_remove(rt, &mut editor, 6)?;
+    show_add(rt, &mut editor, 0)?;
+    show_remove(rt, &mut editor, 7)?;
+    show_remove(rt, &mut editor, 0)?;
+    show_add(rt, &mut editor, 55)?;
+    show_add(rt, &mut editor, 15)?;
+    show_remove(rt, &mut editor, 15)
 }
 
 // Twenty additions, of which sixteen are held; an added 0 is still refused 7; then one is removed and another added.
 fn long_history(rt: &impl Print) -> io::Result<()> {
-    let mut state = editor::empty();
-    state = show_four(rt, state, 4, 8, 12, 16)?;
-    state = show_four(rt, state, 20, 24, 28, 32)?;
-    state = show_four(rt, state, 36, 40, 44, 48)?;
-    state = show_four(rt, state, 52, 56, 60, 64)?;
-    state = show_four(rt, state, 68, 72, 76, 80)?;
-    state = show_add(rt, state, 0)?;
-    state = show_remove(rt, state, 4)?;
-    state = show_add(rt, state, 255)?;
-    state = show_remove(rt, state, 255)?;
-    show_add(rt, state, 7)?;
-    Ok(())
+    let mut editor = editor::empty();
+    let twenty = [
+        4, 8, 12, 16, 20, 24, 28, 32, 36, 40, 44, 48, 52, 56, 60, 64, 68, 72, 76, 80,
+    ];
+    show_additions(rt, &mut editor, &twenty)?;
+    show_add(rt, &mut editor, 0)?;
+    show_remove(rt, &mut editor, 4)?;
+    show_add(rt, &mut editor, 255)?;
+    show_remove(rt, &mut editor, 255)?;
+    show_add(rt, &mut editor, 7)
 }
 
 // States that are not right: a length of 17, a held 0, a place past the length that is not 0, an answer that the bytes do not give.
 fn wrong_states(rt: &impl Print) -> io::Result<()> {
-    let ones = [1u8; 16];
-    let zeros = [0u8; 16];
+    let ones = [1; 16];
+    let zeros = [0; 16];
     show_add(
         rt,
-        Editor {
+        &mut Editor {
             bytes: ones,
             length: 17,
-            answer: NumberAnswer::Given(0),
+            answer: Ok(0),
         },
         0,
     )?;
     show_remove(
         rt,
-        Editor {
+        &mut Editor {
             bytes: zeros,
             length: 1,
-            answer: NumberAnswer::Refused(Refusal::ZeroGenerator),
+            answer: Err(Refusal::ZeroGenerator),
         },
         0,
     )?;
     show_remove(
         rt,
-        Editor {
+        &mut Editor {
             bytes: ones,
             length: 15,
-            answer: NumberAnswer::Given(0),
+            answer: Ok(0),
         },
         1,
     )?;
     show_add(
         rt,
-        Editor {
+        &mut Editor {
             bytes: ones,
             length: 16,
-            answer: NumberAnswer::Given(1),
+            answer: Ok(1),
         },
         1,
-    )?;
-    Ok(())
+    )
 }
 
 // An unfinished walk of the window from 3 to 40.
@@ -382,8 +335,10 @@ fn walk_on(genus: u64, word: u64) -> Walk {
     Walk {
         genus,
         word,
-        lowest: 3,
-        highest: 40,
+        window: Window {
+            lowest: 3,
+            highest: 40,
+        },
         finished: false,
     }
 }
@@ -393,8 +348,10 @@ fn walk_done(word: u64) -> Walk {
     Walk {
         genus: 4,
         word,
-        lowest: 3,
-        highest: 4,
+        window: Window {
+            lowest: 3,
+            highest: 4,
+        },
         finished: true,
     }
 }
