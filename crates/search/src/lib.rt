@@ -62,8 +62,9 @@ fn first_below(tree: Subtree, gap: u64) -> Option<u64>
     first_among(tree, n.first_row(), gap)
 }
 
-// The same of the words below those children of its node whose offsets are the bits of `rest`. After the new gap e of a child there are `left`
-// gaps to come, so that the largest is at least e + left: where that is above `gap`, it is so for all later children too.
+// The same of the words below those children of its node whose offsets are the bits of `rest`. It is inline, as the last level then needs no
+// call: with it the searches of genus 32 take 1.1 times as long.
+#[inline(always)]
 #[cycle(first_among_first_below)]
 fn first_among(tree: Subtree, rest: u64, gap: u64) -> Option<u64>
     requires left { 1 ≤ tree.left }
@@ -71,10 +72,22 @@ fn first_among(tree: Subtree, rest: u64, gap: u64) -> Option<u64>
     requires conductor_le_gap { (tree.node.conductor ≤ gap) × (gap ≤ 63) }
     ensures { sought result ≡ head? (with_largest_gap gap (branches (tree.left - 1) tree.node.word rest)) }
 {
-    let left = tree.left - 1;
-    if left == 0 {
+    if tree.left == 1 {
         return child_with(tree, rest, gap);
     }
+    first_by_child(tree, rest, gap)
+}
+
+// The same, 2 levels or more below its node. After the new gap e of a child there are `left` gaps to come, so that the largest is at least
+// e + left: where that is above `gap`, it is so for all later children too.
+#[cycle(first_among_first_below)]
+fn first_by_child(tree: Subtree, rest: u64, gap: u64) -> Option<u64>
+    requires left { 2 ≤ tree.left }
+    requires offsets { Offsets tree.node.word rest }
+    requires conductor_le_gap { (tree.node.conductor ≤ gap) × (gap ≤ 63) }
+    ensures { sought result ≡ head? (with_largest_gap gap (branches (tree.left - 1) tree.node.word rest)) }
+{
+    let left = tree.left - 1;
     for low in Bits(rest) {
         let e = Element::at_offset(tree.node.conductor, low.at);
         if gap < e.0 + left {

@@ -1,4 +1,4 @@
--- The proof of the cycle of calls {first_among, first_below}. Assumes nothing.
+-- The proof of the cycle of calls {first_among, first_below, first_by_child}. Assumes nothing.
 use Prim.Native.Nat.{ℕ, ◌+◌, ◌-◌, ◌≤◌, ◌<◌, min}
 use mathlib.Core.Path.{◌≡◌, refl, sym, ap, ◌∙◌, subst}
 use mathlib.Core.Option.{none, some}
@@ -19,7 +19,7 @@ use Rattle.nodes.proofs.Branches.{TakenOff, branches_none, offset_first, child_o
 use Rattle.search.specs.Private.{with_largest_gap}
 use Rattle.search.proofs.Cuts.{in_first, in_second, cut_by_sum, cut_by_room}
 use Rattle.search.proofs.+first_among_first_below.Goals as goal
-use Rattle.search.proofs.+first_among_first_below.Goals.{first_among-After-first_below-found, first_below-After-first_row}
+use Rattle.search.proofs.+first_among_first_below.Goals.{first_by_child-After-first_below-found, first_below-After-first_row}
 
 -- what an `Option` says that has a number, and one that has none
 found_one : (o : Option ℕ) → is_some o ≡ true → (x : ℕ) × (sought o ≡ some x)
@@ -30,8 +30,8 @@ found_none : (o : Option ℕ) → is_some o ≡ false → sought o ≡ none
 found_none (Some x) e = cc
 found_none None e = refl
 
--- a node with a level below it or more, and the lowest of some of its offsets
-module _ {n : Node} {left bits at rest : ℕ} (positive : 1 ≤ left) (levels : NodeWithLevels left n) (offsets : Offsets n.word bits) (low : TakenOff bits at rest) where
+-- a node with two levels below it or more, and the lowest of some of its offsets
+module _ {n : Node} {left bits at rest : ℕ} (two : 2 ≤ left) (levels : NodeWithLevels left n) (offsets : Offsets n.word bits) (low : TakenOff bits at rest) where
   below : NodeWithLevels (left - 1 + 1) n
   below = let same : left ≡ left - 1 + 1 = omega arith in subst (λ (k : ℕ). NodeWithLevels k n) same levels
 
@@ -57,49 +57,49 @@ module _ {n : Node} {left bits at rest : ℕ} (positive : 1 ≤ left) (levels : 
   too_far is far = ap head? (cut_by_room _ _ _ (levels_below _ _ below) offsets low (omega (arith, element is)))
 
 -- the first of the words below the child, by the levels of its parent
-found_below : {t : ℕ} (c : first_among-After-first_below-found t)
+found_below : {t : ℕ} (c : first_by_child-After-first_below-found t)
     → sought c.first_below-found.result ≡ head? (with_largest_gap c.args.gap (leaves (c.args.tree.left - 1) c.child.result.node.word))
 found_below c =
     let same : c.child.result.left ≡ c.args.tree.left - 1 = omega (arith, c.child.ensures.1) in
     rw same at c.first_below-found.ensures
 
-pub first_among-returns-then-gap-e : goal.first_among-returns-then-gap-e
-first_among-returns-then-gap-e t c =
+pub first_by_child-returns-then-gap-e : goal.first_by_child-returns-then-gap-e
+first_by_child-returns-then-gap-e t c =
     let inv = c.loop-low.invariant in
     sym (too_far c.requires.left c.args.tree.levels inv.0 c.in-Some.ensures.steps.0 c.at_offset-e.ensures (omega arith)) ∙ inv.1
 
-pub first_among-child-requires-clause-generator : goal.first_among-child-requires-clause-generator
-first_among-child-requires-clause-generator t c =
+pub first_by_child-child-requires-clause-generator : goal.first_by_child-child-requires-clause-generator
+first_by_child-child-requires-clause-generator t c =
     generator c.requires.left c.args.tree.levels c.loop-low.invariant.0 c.in-Some.ensures.steps.0
 
-pub first_among-first_below-found-requires : goal.first_among-first_below-found-requires
-first_among-first_below-found-requires t c =
+pub first_by_child-first_below-found-requires : goal.first_by_child-first_below-found-requires
+first_by_child-first_below-found-requires t c =
     let offsets = c.loop-low.invariant.0 in
     let low = c.in-Some.ensures.steps.0 in
     let near = element c.requires.left c.args.tree.levels offsets low c.at_offset-e.ensures in
     let next = conductor_is c.requires.left c.args.tree.levels offsets low c.child.ensures.0 in
     (omega (arith, c.child.ensures.1), (omega (arith, c.child.ensures.1), omega (arith, near, next, c.requires.conductor_le_gap)))
 
-pub first_among-returns-then-is_some : goal.first_among-returns-then-is_some
-first_among-returns-then-is_some t c =
+pub first_by_child-returns-then-is_some : goal.first_by_child-returns-then-is_some
+first_by_child-returns-then-is_some t c =
     let inv = c.loop-low.invariant in
     let first = first c.requires.left c.args.tree.levels inv.0 c.in-Some.ensures.steps.0 c.child.ensures.0 in
     let (x, found) = found_one c.first_below-found.result (sym c.is_some.ensures ∙ c.if-is_some.true) in
-    let below = found_below (goal.at.first_among-returns-then-is_some t c).After-first_below-found in
+    let below = found_below (goal.at.first_by_child-returns-then-is_some t c).After-first_below-found in
     found ∙ sym (in_first _ _ _ first.parts (sym below ∙ found)) ∙ inv.1
 
-pub first_among-loop-low-preserved : goal.first_among-loop-low-preserved
-first_among-loop-low-preserved t c =
+pub first_by_child-loop-low-preserved : goal.first_by_child-loop-low-preserved
+first_by_child-loop-low-preserved t c =
     let inv = c.loop-low.invariant in
     let (low, left) = c.in-Some.ensures.steps in
     let first = first c.requires.left c.args.tree.levels inv.0 low c.child.ensures.0 in
     let found = found_none c.first_below-found.result (sym c.is_some.ensures ∙ c.if-is_some.false) in
-    let below = found_below (goal.at.first_among-loop-low-preserved t c).After-first_below-found in
+    let below = found_below (goal.at.first_by_child-loop-low-preserved t c).After-first_below-found in
     rw left (first.others, sym (in_second _ _ _ first.parts (sym below ∙ found)) ∙ inv.1)
 
-pub first_among-returns : goal.first_among-returns
+pub first_by_child-returns : goal.first_by_child-returns
 unfolding with_largest_gap keep
-first_among-returns t c =
+first_by_child-returns t c =
     sym (ap (λ (l : List ℕ). head? (with_largest_gap c.args.gap l)) (branches_none (c.args.tree.left - 1) c.args.tree.node.word))
     ∙ rw c.in-None.ensures.steps.0 at c.loop-low.invariant.1
 

@@ -7,13 +7,16 @@ use Rattle.search.specs.Private.{with_largest_gap}
 use Rattle.search.proofs.+first_among_first_below.Given as goal
 
 abbrev pub decreases-first_among : goal.decreases-first_among
-decreases-first_among l = 2 * l.tree.left
+decreases-first_among l = 3 * l.tree.left + 1
+
+abbrev pub decreases-first_by_child : goal.decreases-first_by_child
+decreases-first_by_child l = 3 * l.tree.left
 
 abbrev pub decreases-first_below : goal.decreases-first_below
-decreases-first_below l = 2 * l.tree.left + 1
+decreases-first_below l = 3 * l.tree.left + 2
 
-abbrev pub invariant-first_among-loop-low : goal.invariant-first_among-loop-low
-invariant-first_among-loop-low l =
+abbrev pub invariant-first_by_child-loop-low : goal.invariant-first_by_child-loop-low
+invariant-first_by_child-loop-low l =
     let w = l.tree.node.word in
     Offsets w l.low-iterator.0
     × (head? (with_largest_gap l.gap (branches (l.tree.left - 1) w l.low-iterator.0)) ≡ head? (with_largest_gap l.gap (branches (l.tree.left - 1) w l.rest)))
