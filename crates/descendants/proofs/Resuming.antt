@@ -17,9 +17,10 @@ use Rattle.nodes.specs.Nodes.{child_node, first_row, next_offset}
 use Rattle.nodes.specs.Levels.{Levels, NodeWithLevels}
 use Rattle.nodes.specs.Branches.{branches, Offsets}
 use Rattle.nodes.specs.declared.Node.{Node}
+use Rattle.nodes.specs.declared.Subtree.{Subtree}
 use Rattle.nodes.proofs.Nodes.{next_offset_is}
 use Rattle.nodes.proofs.Levels.{node_conductor}
-use Rattle.nodes.proofs.Branches.{leaves_row, offsets_row, child_of_generator, leaf_below, levels_below, first_row_offsets, child_word_is, child_with_levels}
+use Rattle.nodes.proofs.Branches.{leaves_row, offsets_row, child_of_generator, leaf_below, levels_below, first_row_offsets, child_word_is}
 
 -- ---- the leaves from one of them on
 
@@ -85,7 +86,7 @@ on_from_own v w m = let e = Memᴰ.eq_of_singleton m in rw (eq-eqb v w e) (ap (�
 pub record Below (r : ℕ) (n : Node) (v d : ℕ) : Type 0 where
   pub node_levels : NodeWithLevels (r - 1 + 1) n
   pub near : d < 32
-  pub child : NodeWithLevels (r - 1) (child_node n d)
+  pub generates : Memᴰ (conductor n.word + d) (right_generators n.word)
   pub leaf : Memᴰ v (leaves (r - 1) (child_node n d).word)
   pub offsets : Offsets n.word (above (first_row n) d)
   pub parts : on_from v (leaves r n.word) ≡ on_from v (leaves (r - 1) (child_node n d).word) ++ branches (r - 1) n.word (above (first_row n) d)
@@ -113,10 +114,19 @@ next_child r n h at v m {d} e =
             generator_offset w at.levels.fits d (right_generators_mem w at.levels.fits found.generates).1,
             multiplicity_le_conductor w at.levels.fits,
           );
-      child = child_with_levels (r - 1) n node_levels d found.generates;
+      generates = found.generates;
       leaf = subst (λ (u : ℕ). Memᴰ v (leaves (r - 1) u)) same found.leaf;
       offsets = found.later;
       parts =
           ap (λ (k : ℕ). on_from v (leaves k w)) levels-here ∙ found.on
           ∙ ap (λ (u : ℕ). on_from v (leaves (r - 1) u) ++ branches (r - 1) w (above (first_row n) d)) same;
     }
+
+-- ---- the part of the tree below a child
+
+-- its words are those below the child, a level less deep
+pub child_leaves : (tree : Subtree) (d : ℕ) (child : Subtree) → (child.node ≡ child_node tree.node d) × (child.left + 1 ≡ tree.left)
+    → leaves (tree.left - 1) (child_node tree.node d).word ≡ leaves child.left child.node.word
+child_leaves tree d child e =
+    let below : tree.left - 1 ≡ child.left = omega (arith, e.1) in
+    ap (λ (k : ℕ). leaves k (child_node tree.node d).word) below ∙ ap (λ (m : Node). leaves child.left m.word) (sym e.0)

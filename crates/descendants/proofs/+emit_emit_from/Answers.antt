@@ -16,20 +16,20 @@ use Rattle.descendants.proofs.+emit_emit_from.Goals.{emit_from-After-child}
 pub emit-returns-then-row-eq0 : goal.emit-returns-then-row-eq0
 unfolding put_all
 emit-returns-then-row-eq0 t c =
-    rw (no_leaves _ _ (λ e. omega (arith, c.requires.le_left)) c.requires.node_with_levels c.first_row-row.ensures c.if-row-eq0.true)
+    rw (no_leaves _ _ (λ e. omega (arith, c.requires.le_left)) c.args.tree.levels c.first_row-row.ensures c.if-row-eq0.true)
 
 pub emit-put_grandchildren-requires-clause-word_bound : goal.emit-put_grandchildren-requires-clause-word_bound
 emit-put_grandchildren-requires-clause-word_bound t c =
-    omega (arith, c.multiplicity_of.ensures, node_conductor _ _ c.requires.node_with_levels)
+    omega (arith, c.multiplicity_of.ensures, node_conductor _ _ c.args.tree.levels)
 
 pub emit-put_great_grandchildren-requires-clause-word_bound : goal.emit-put_great_grandchildren-requires-clause-word_bound
 emit-put_great_grandchildren-requires-clause-word_bound t c =
-    omega (arith, c.second_element.ensures, node_conductor _ _ c.requires.node_with_levels)
+    omega (arith, c.second_element.ensures, node_conductor _ _ c.args.tree.levels)
 
-pub emit-returns : goal.emit-returns
-emit-returns t c =
-    let row : Row c.args.left c.args.n c.first_row-row.result =
-    row_branches _ _ (λ e. omega (arith, c.requires.le_left)) c.requires.node_with_levels c.first_row-row.ensures in
+pub emit-returns-in_default : goal.emit-returns-in_default
+emit-returns-in_default t c =
+    let row : Row c.args.tree.left c.args.tree.node c.first_row-row.result =
+    row_branches _ _ (λ e. omega (arith, c.requires.le_left)) c.args.tree.levels c.first_row-row.ensures in
     rw row.all c.emit_from.ensures
 
 -- ---- emit_from
@@ -43,9 +43,9 @@ first c =
     let now = c.loop-rest.invariant in
     first_child _ _ c.requires.node_with_levels (upper_offsets _ _ c.requires.node_with_levels now.0) (upper_lowest now.0 (omega arith) c.lowest_of-low.ensures) c.child.ensures
 
-pub emit_from-emit-requires : goal.emit_from-emit-requires
-emit_from-emit-requires t c =
-    (omega arith, (omega arith, (first (goal.at.emit_from-emit-requires t c).After-child).node_levels))
+pub emit_from-invariant_of-child : goal.emit_from-invariant_of-child
+emit_from-invariant_of-child t c =
+    record { levels = (first (goal.at.emit_from-invariant_of-child t c).After-child).node_levels }
 
 pub emit_from-returns-in_err-at : goal.emit_from-returns-in_err-at
 emit_from-returns-in_err-at t c =

@@ -7,7 +7,7 @@ use Rattle.lending.proofs.Lending.{Putting}
 use Rattle.descendants.proofs.+emit_emit_from.Given as goal
 
 abbrev pub decreases-emit : goal.decreases-emit
-decreases-emit l = 2 * l.left
+decreases-emit l = 2 * l.tree.left
 
 abbrev pub decreases-emit_from : goal.decreases-emit_from
 decreases-emit_from l = 2 * l.left + 1

@@ -2,4 +2,4 @@
 use Rattle.descendants.proofs.+resume.Given as goal
 
 abbrev pub decreases-resume : goal.decreases-resume
-decreases-resume l = l.left
+decreases-resume l = l.tree.left

@@ -31,10 +31,11 @@ returns-then-genus-gt32 c = sym (descendant_refused _ _ (accepted (goal.at.retur
 pub returns-then-genus-own : goal.returns-then-genus-own
 returns-then-genus-own c = sym (descendant_below _ _ (accepted (goal.at.returns-then-genus-own c).In_ok-n).0 (omega (arith, c.genus_of-own.ensures)))
 
-pub first_leaf-requires : goal.first_leaf-requires
-first_leaf-requires c =
-    let at = (goal.at.first_leaf-requires c).In_ok-n in
-    rw ((accepted at).1, c.genus_of-own.ensures) (accepted_levels _ _ c.ranges.word.fits (accepted at).0 (omega (arith, c.genus_of-own.ensures)))
+pub invariant_of-first_leaf : goal.invariant_of-first_leaf
+invariant_of-first_leaf c =
+    let at = (goal.at.invariant_of-first_leaf c).In_ok-n in
+    let levels = accepted_levels _ _ c.ranges.word.fits (accepted at).0 (omega (arith, c.genus_of-own.ensures)) in
+    record { levels = rw ((accepted at).1, c.genus_of-own.ensures) levels }
 
 pub returns : goal.returns
 unfolding node_of

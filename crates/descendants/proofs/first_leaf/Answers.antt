@@ -7,13 +7,13 @@ use Rattle.descendants.proofs.first_leaf.Goals as goal
 use Rattle.descendants.proofs.first_leaf.Goals.{After-first_row}
 
 -- the node's first row
-row : (c : After-first_row) → Row c.args.left c.args.n c.first_row.result
-row c = row_branches _ _ c.if-left-eq0.false c.requires c.first_row.ensures
+row : (c : After-first_row) → Row c.args.tree.left c.args.tree.node c.first_row.result
+row c = row_branches _ _ c.if-tree-eq0.false c.args.tree.levels c.first_row.ensures
 
 -- no level below the node: its word
-pub returns-then-left-eq0 : goal.returns-then-left-eq0
+pub returns-then-tree-eq0 : goal.returns-then-tree-eq0
 unfolding leaves
-returns-then-left-eq0 c = rw c.if-left-eq0.true
+returns-then-tree-eq0 c = rw c.if-tree-eq0.true
 
 pub returns : goal.returns
 returns c =

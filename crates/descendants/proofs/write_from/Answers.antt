@@ -2,8 +2,8 @@
 -- nothing.
 use mathlib.Core.Path.{◌≡◌, sym, ◌∙◌}
 use mathlib.Core.Bool.{true}
+use native.Mathlib.Omega.{arith}
 use Rattle.nodes.specs.Nodes.{node_of}
-use Rattle.nodes.proofs.Levels.{root_levels}
 use Rattle.windows.specs.Windows.{holds}
 use Rattle.descendants.proofs.Onward.{from_refused, from_small, from_leaf, from_leaves}
 use Rattle.descendants.proofs.write_from.Goals as goal
@@ -16,6 +16,9 @@ held c = sym c.has_word.ensures ∙ c.if-not-has_word.false
 pub returns-then-not-has_word : goal.returns-then-not-has_word
 returns-then-not-has_word c = sym (from_refused _ _ _ _ _ (sym c.has_word.ensures ∙ c.if-not-has_word.true))
 
+pub of_genus-requires : goal.of_genus-requires
+of_genus-requires c = omega (arith, from_small _ _ _ _ c.ranges.word.fits (held (goal.at.of_genus-requires c).Else-not-has_word))
+
 pub resume-requires : goal.resume-requires
 unfolding node_of
 resume-requires c =
@@ -23,12 +26,11 @@ resume-requires c =
     let fits = c.ranges.word.fits in
     let leaf = from_leaf _ _ _ _ fits held in
     record {
-      node_with_levels = rw c.root.ensures (root_levels _ (from_small _ _ _ _ fits held));
-      fact = rw c.root.ensures leaf.0;
+      fact = rw (c.of_genus.ensures.0, c.of_genus.ensures.1) leaf.0;
       lowest_bound = leaf.1;
     }
 
 pub returns : goal.returns
 unfolding node_of
 returns c =
-    from_leaves _ _ _ _ c.ranges.word.fits (held (goal.at.returns c).Else-not-has_word) _ (rw c.root.ensures at c.resume.ensures)
+    from_leaves _ _ _ _ c.ranges.word.fits (held (goal.at.returns c).Else-not-has_word) _ (rw (c.of_genus.ensures.0, c.of_genus.ensures.1) at c.resume.ensures)
