@@ -29,7 +29,7 @@ pub fn write_refusal_line(rt: &impl Print, refusal: Refusal) -> io::Result<()> {
     match listing::refusal_line(refusal, &mut line) {
         Ok(length) => rt.write_all(&line[..length as usize]),
         // The line has its places.
-        Err(_) => Ok(()),
+        Err(_) => unreachable!(),
     }
 }
 
