@@ -2,9 +2,13 @@
 // refused gives a `Result` with a `Refusal`.
 #![tactic(auto)]
 
-ghost use Rattle.std.specs.Prelude.{◌+◌, ◌-◌, ◌^◌, min, ◌≡◌, ltb};
+ghost use Rattle.std.specs.Prelude.{◌+◌, ◌-◌, ◌^◌, ◌++◌, min, ◌≡◌, ltb, Some, codes};
+ghost use Rattle.std.specs.Fmt.{decimal};
 ghost use Rattle.semigroups.specs.Lists.{every};
 ghost use Rattle.answers.specs.Answers.{number_of};
+
+use std::error::Error;
+use std::fmt;
 
 // An element of a set.
 #[derive(Clone, Copy, Debug, PartialEq, Eq)]
@@ -77,6 +81,18 @@ impl Refusal {
         self as u64
     }
 }
+
+// A refusal as text: "refused", a blank and the number of the question.
+impl fmt::Display for Refusal {
+    ghost output = { λ r. Some (codes "refused " ++ decimal (number_of r)) };
+
+    fn fmt<W: fmt::Write>(&self, f: &mut fmt::Formatter<W>) -> fmt::Result {
+        let number = self.number();
+        write!(f, "refused {number}")
+    }
+}
+
+impl Error for Refusal {}
 
 // Are all bytes of a list at least 1?
 pub fn all_positive(list: &[u8]) -> bool

@@ -37,7 +37,7 @@ fn place_of(word: u64) -> u64
     65 * m + c
 }
 
-// Adds one at a place.
+// Adds one at a place. The number in `RoomFor` is another in each function here, so that it is no fact of the list alone.
 #[tactic(auto, unfolding(crate::specs::Private::one_more_at))]
 fn add_one(place: u64, out: &mut [u64])
     requires { (place < 2210) × RoomFor 1 out.old }

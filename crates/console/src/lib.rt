@@ -35,7 +35,7 @@ pub fn write_refusal_line(rt: &impl Print, refusal: Refusal) -> io::Result<()> {
 
 // Writes that a call is refused, with the number of its refusal, after a blank.
 pub fn write_refused(rt: &impl Print, refusal: Refusal) -> io::Result<()> {
-    print!(rt; " refused {}", refusal.number())
+    print!(rt; " {refusal}")
 }
 
 // Writes the number that a call gave after a blank, or that it is refused.

@@ -86,7 +86,8 @@ pub fn start(word: u64) -> Result<Walk, Refusal>
 }
 
 // A batch by value: fills the lent list from the front with the words from the walk's on, as far as the list or the semigroups last, and gives
-// the walk that stands on the next. Refused above genus 32 and where the walk is out of order: then nothing is written.
+// the walk that stands on the next. Refused above genus 32 and where the walk is out of order: then nothing is written. The scope of the atlas names
+// the form: one thin batch over a step by value.
 pub fn step(walk: Walk, out: &mut [u64]) -> Result<Moved, Refusal>
     ensures { stepped walk result out.new ≡ batch_of walk out.old }
 {
