@@ -3,25 +3,22 @@ use Prim.Native.Nat.{ℕ, suc, ◌+◌, ◌-◌, ◌≤◌, ◌<◌}
 use mathlib.Core.Path.{◌≡◌, refl, sym, ap, ap₂, ◌∙◌}
 use mathlib.Core.Logic.{◌↔◌}
 use mathlib.Core.Bool.{Bool, true, false, cond, not}
-use mathlib.Core.List.{List, [], ◌∷◌, ◌++◌, Memᴰ, append-nil, append_assoc}
+use mathlib.Core.List.{List, [], ◌∷◌, ◌++◌, Memᴰ, append-nil}
 use native.Mathlib.Omega.{arith}
 use native.Mathlib.Decide.{dec_lt}
 use native.Mathlib.Numerals.{add-one}
 use lib.Dec.{eqb, ltb}
-use lib.ListN.{length, take, drop, replicate, length-append, length-take, length-drop}
-use lib.Seq.{take-append_seam, drop-append_seam, drop-append-add, take-take, drop-drop}
+use lib.ListN.{length, get_or, take, drop, length-append, length-take, length-drop, get_or-append}
+use lib.Seq.{take-append_seam, drop-append-add, get_or-append-add, get_or-take, get_or-drop, length-take-le}
 use borrow.Author.Tests.{eq-eqb, ne_eqb, lt-ltb, le-ltb}
-use borrow.Rule.Slice.PartMut.{put_mid}
 use Rattle.std.specs.Prelude.{Option, Some, None}
 use Rattle.std.specs.List.{position_or_len}
-use Rattle.std.proofs.lemmas.Slice.{between_is}
-use Rattle.semigroups.specs.Lists.{member_of, fronted}
+use Rattle.semigroups.specs.Lists.{member_of}
 use Rattle.semigroups.proofs.Booleans.{not_both, is_true}
 use Rattle.semigroups.proofs.Membership.{member_iff, first_split}
 use Rattle.changes.specs.Changes.{without_first}
-use Rattle.changes.specs.States.{in_sixteen}
 use Rattle.changes.proofs.Changes.{without_first_is}
-use Rattle.editor.specs.Private.{first_place, without_place}
+use Rattle.editor.specs.Private.{first_place, without_place, skipping}
 
 module _ (a : ℕ) where
   -- behind a part without a
@@ -96,40 +93,31 @@ module _ (a : ℕ) where
 
 -- ---- a list without one place
 
--- it has one number less
-pub without_place_length : (l : List ℕ) (place : ℕ) → place < length l → suc (length (without_place place l)) ≡ length l
-unfolding without_place
-without_place_length l place there =
-    omega (arith, length-append (take place l) (drop (suc place) l), length-take place l, length-drop (suc place) l)
+-- a place of the shorter list is one of the whole list
+pub skipping_lt : (i place n : ℕ) → suc i < n → skipping i place < n
+skipping_lt i place n h =
+    elim (dec_lt i place) [
+      | yes k ↦ rw (lt-ltb i place k) (omega arith)
+      | no k ↦ rw (le-ltb i place (omega arith)) (omega arith)
+    ]
 
--- the bytes before the place, and then those behind it, written over the zeros of sixteen places
-module _ (b : List ℕ) (n place : ℕ) (there : place < n) (short : n ≤ 16) (sixteen : length b ≡ 16) where
-  abbrev zeros : List ℕ
-  zeros = replicate 16 0
-
-  -- what is written
-  abbrev front : List ℕ
-  front = take place b
-
-  abbrev rest : List ℕ
-  rest = take (n - (place + 1)) (drop (place + 1) b)
-
-  whole : front ++ rest ≡ without_place place (take n b)
+module _ (l : List ℕ) (place : ℕ) (there : place < length l) where
+  -- it has one number less
+  pub without_place_length : suc (length (without_place place l)) ≡ length l
   unfolding without_place
-  whole = ap₂ ◌++◌ (sym (take-take place n b (omega arith))) (between_is b (place + 1) n ∙ ap (λ (i : ℕ). drop i (take n b)) (add-one place))
+  without_place_length =
+      omega (arith, length-append (take place l) (drop (suc place) l), length-take place l, length-drop (suc place) l)
 
-  long : length (without_place place (take n b)) ≡ n - 1
-  long = omega (arith, without_place_length (take n b) place (omega (arith, length-take n b)), length-take n b)
-
-  pub two_parts : (x y : List ℕ) → x ≡ front → y ≡ rest
-      → put_mid place (n - 1 - place) (x ++ drop place zeros) y ≡ in_sixteen (without_place place (take n b))
-  unfolding fronted
-  two_parts x y p q =
-      let first : length x ≡ place = omega (arith, ap length p, length-take place b) in
-      let left = ap (λ (k : ℕ). take k (x ++ drop place zeros)) (sym first) ∙ take-append_seam x (drop place zeros) ∙ p in
-      let behind = ap (λ (k : ℕ). drop k (x ++ drop place zeros)) (sym first) ∙ drop-append_seam x (drop place zeros) in
-      let to : place + (n - 1 - place) ≡ n - 1 = omega arith in
-      let past : drop (n - 1 - place) (drop place zeros) ≡ drop (n - 1) zeros = drop-drop (n - 1 - place) place zeros ∙ ap (λ (k : ℕ). drop k zeros) to in
-      ap₂ ◌++◌ left (ap₂ ◌++◌ q (ap (drop (n - 1 - place)) behind ∙ past))
-      ∙ sym (append_assoc front rest (drop (n - 1) zeros))
-      ∙ ap₂ ◌++◌ whole (ap (λ (k : ℕ). drop k zeros) (sym long))
+  -- its numbers before the place stand as they did, those behind it one place further up
+  pub without_place_entry : (i : ℕ) → get_or (without_place place l) i 0 ≡ get_or l (skipping i place) 0
+  unfolding without_place
+  without_place_entry i =
+      let front : length (take place l) ≡ place = length-take-le place l (omega arith) in
+      elim (dec_lt i place) [
+        | yes h ↦ get_or-append (take place l) (drop (suc place) l) 0 i (omega arith) ∙ get_or-take place l i 0 h ∙ rw (lt-ltb i place h)
+        | no h ↦
+            let at : i ≡ length (take place l) + (i - place) = omega arith in
+            let source : suc place + (i - place) ≡ i + 1 = omega arith in
+            ap (λ (j : ℕ). get_or (take place l ++ drop (suc place) l) j 0) at ∙ get_or-append-add (take place l) (drop (suc place) l) (i - place) 0
+            ∙ get_or-drop (suc place) l (i - place) 0 ∙ ap (λ (j : ℕ). get_or l j 0) source ∙ rw (le-ltb i place (omega arith))
+      ]

@@ -1,6 +1,6 @@
 -- What the private functions of the crate compute: places of a list, and a state with the answer of its bytes. Assumes nothing: these are
 -- definitions.
-use Rattle.std.specs.Prelude.{ℕ, suc, cond, List, [], ◌∷◌, ◌++◌, eqb, take, drop}
+use Rattle.std.specs.Prelude.{ℕ, suc, ◌+◌, cond, List, [], ◌∷◌, ◌++◌, eqb, ltb, take, drop}
 use Rattle.sums.specs.WordFrom.{word_from_of}
 use Rattle.changes.specs.States.{State}
 
@@ -12,6 +12,10 @@ first_place a (x ∷ l) = cond (eqb x a) 0 (suc (first_place a l))
 -- l without the member at a place
 unfoldable pub without_place : ℕ → List ℕ → List ℕ
 without_place place l = take place l ++ drop (suc place) l
+
+-- the place i of a list without one place, as a place of the whole list
+abbrev pub skipping : ℕ → ℕ → ℕ
+skipping i place = cond (ltb i place) i (i + 1)
 
 -- the state with these places, of which the first n are held, and with their answer
 unfoldable pub with_answer : List ℕ → ℕ → State

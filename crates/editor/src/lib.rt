@@ -8,7 +8,7 @@ ghost use Rattle.sums.specs.WordFrom.{word_from_of};
 ghost use Rattle.changes.specs.Changes.{addition, removal};
 ghost use Rattle.changes.specs.States.{is_right, in_sixteen, state_of, change_of};
 ghost use Rattle.editor.specs.Answers.{said, told};
-ghost use Rattle.editor.specs.Private.{without_place, with_answer};
+ghost use Rattle.editor.specs.Private.{without_place, skipping, with_answer};
 
 use answers::Refusal;
 
@@ -64,14 +64,24 @@ fn is_right(editor: &Editor) -> bool
         && answer == answer_of(bytes, length)
 }
 
-// The first `length` bytes without that at `place`, in sixteen places: those behind it move up, and the place that is freed becomes 0.
+// The place `i` of a list without one place, as a place of the whole list.
+fn skip(i: usize, place: usize) -> usize
+    requires { i < 16 }
+    ensures { result ≡ skipping i place }
+{
+    if i < place { i } else { i + 1 }
+}
+
+// The first `length` bytes without that at `place`, in sixteen places: those behind it move up, and the place that is freed becomes 0. It is a loop,
+// as a copy of so many bytes would be a call of memcpy, which the library for C does not ask for.
 fn without_place(bytes: [u8; 16], length: usize, place: usize) -> [u8; 16]
     requires { (place < length) × (length ≤ 16) }
     ensures { result ≡ in_sixteen (without_place place (take length bytes)) }
 {
     let mut left = [0u8; 16];
-    left[..place].copy_from_slice(&bytes[..place]);
-    left[place..length - 1].copy_from_slice(&bytes[place + 1..length]);
+    for (i, moved) in left[..length - 1].iter_mut().enumerate() {
+        *moved = bytes[skip(i, place)];
+    }
     left
 }
 

@@ -13,7 +13,7 @@ use native.Mathlib.Decide.{ℕ_discrete}
 use lib.Dec.{eqb, ltb, leb, leb-zero, leb-suc-zero, leb-suc-suc}
 use lib.ListN.{length, get_or, take, drop, set, replicate, length-append, length-take, length-drop, length-replicate, replicate-append-replicate, take-append-drop, drop_of_length-le, get_or-append}
 use lib.Pow.{pow_mono}
-use lib.Seq.{take-append_seam, drop-append_seam, set-append_seam, drop-cons, drop-append-add, drop-drop, drop_at, take-suc, sets, get_or-append-add, get_or-drop}
+use lib.Seq.{take_all, take-append_seam, drop-append_seam, set-append_seam, drop-cons, drop-append-add, drop-drop, drop_at, take-suc, sets, get_or-append-add, get_or-drop}
 use borrow.Author.Tests.{eq-eqb, ne_eqb, eqb-true, ltb-true, ltb-false, lt-ltb}
 use Rattle.std.specs.List.{list_all}
 use Rattle.semigroups.specs.Lists.{none, run, keep, keep_if, every, joined, sum_over, last_or, begins, fronted, on_from, Ordered}
@@ -826,6 +826,12 @@ fronted_next l out k h room =
     let here : length (take k l) ≡ k = length-take k l ∙ omega arith in
     ap (λ (i : ℕ). set (fronted (take k l) out) i (get_or l k 0)) (sym here) ∙ fronted_set (take k l) out (get_or l k 0) (omega arith)
     ∙ ap (λ (t : List ℕ). fronted t out) (sym (take-suc l k 0 h) ∙ ap (λ (i : ℕ). take i l) (sym (add-one k)))
+
+-- all of l, in a list that is as long
+pub fronted_all : (l out : List ℕ) (k : ℕ) → length l ≤ k → length out ≡ length l → fronted (take k l) out ≡ l
+unfolding fronted
+fronted_all l out k all same =
+    ap (λ (t : List ℕ). t ++ drop (length t) out) (take_all k l all) ∙ ap (λ (r : List ℕ). l ++ r) (drop_of_length-le out {i = length l} (omega arith)) ∙ append-nil l
 
 -- the front of the list itself
 pub fronted_self : (out : List ℕ) (n : ℕ) → n ≤ length out → fronted (take n out) out ≡ out
