@@ -4,8 +4,8 @@ use mathlib.Core.Path.{◌≡◌, refl, sym, ap, ap₂, ◌∙◌, subst}
 use mathlib.Core.List.{List, [], ◌∷◌, ◌++◌, Memᴰ}
 use native.Mathlib.Omega.{arith}
 use native.Mathlib.Nat.{pow-suc, pow-le-pow_right, div-one}
-use Rattle.std.proofs.Math.Nat.{div-div-eq-div-mul}
-use Rattle.std.specs.Int.{w64, byte_at, bytes_low_first, to_le_bytes, from_le_bytes}
+use lib.Pow.{shr-shr}
+use Rattle.std.specs.Int.{w64, from_le_bytes}
 use Rattle.std.proofs.lemmas.List.{drop-replicate, length-replicate}
 use lib.ListN.{length, get_or, take, drop, replicate, length-append, take-append-drop, length-take, length-drop}
 use Rattle.semigroups.specs.Lists.{Bytes}
@@ -30,25 +30,16 @@ unfolding bytes_of value_of
 bytes_value zero v h = omega arith
 bytes_value (suc n) v h = omega (arith, bytes_value n (v / 256) (omega (arith, pow-suc 256 n)))
 
--- ---- the library's bytes
-
--- the lowest n of the bytes of a number from byte i upward
-low_bytes : (n i k v : ℕ) → n ≤ k → take n (bytes_low_first i k v) ≡ bytes_of n (v / 256 ^ i)
+-- byte i is what stands 8 i bits up
+pub bytes_entry : (n v i : ℕ) → i < n → get_or (bytes_of n v) i 0 ≡ v / 2 ^ (8 * i) % 256
 unfolding bytes_of
-low_bytes zero i k v h = refl
-low_bytes (suc n) i zero v h = absurd (omega arith)
-low_bytes (suc n) i (suc k) v h = ap₂ ◌∷◌ (low i) (low_bytes n (suc i) k v (omega arith) ∙ ap (bytes_of n) further)
-  where
-    low : (i : ℕ) → byte_at i v ≡ v / 256 ^ i % 256
-    low zero = ap (λ (x : ℕ). x % 256) (sym (div-one v))
-    low (suc i) = refl
+bytes_entry zero v i h = absurd (omega arith)
+bytes_entry (suc n) v zero h = ap (λ (x : ℕ). x % 256) (sym (div-one v))
+bytes_entry (suc n) v (suc i) h =
+    let further : 8 + 8 * i ≡ 8 * suc i = omega arith in
+    bytes_entry n (v / 256) i (omega arith) ∙ ap (λ (x : ℕ). x % 256) (shr-shr v 8 (8 * i) ∙ ap (λ (k : ℕ). v / 2 ^ k) further)
 
-    further : v / 256 ^ suc i ≡ v / 256 ^ i / 256
-    further = ap (λ (p : ℕ). v / p) (pow-suc 256 i) ∙ sym (div-div-eq-div-mul v (256 ^ i) 256)
-
--- of its 8 bytes, the lowest n
-pub lowest_bytes : (n v : ℕ) → n ≤ 8 → take n (to_le_bytes w64 v) ≡ bytes_of n v
-lowest_bytes n v few = low_bytes n 0 8 v few ∙ ap (bytes_of n) (div-one v)
+-- ---- the library's bytes
 
 -- at most 8 bytes have their number
 eight_bytes : (l : List ℕ) → length l ≤ 8 → from_le_bytes w64 l ≡ value_of l

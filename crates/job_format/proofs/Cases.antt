@@ -18,7 +18,7 @@ sample = 0x9d ∷ 2 ∷ 15 ∷ 40 ∷ 0xff ∷ 0x7f ∷ 0 ∷ 0 ∷ 0 ∷ 0 ∷ 
 -- it is laid out of its fields, where a lowest multiplicity of 3 has no bytes, and they are read from it
 pub known_layout :
     (laid 0x9d (λ i. get_or (15 ∷ 3 ∷ 40 ∷ 0x7fff ∷ 0x0102030405060708 ∷ 0 ∷ 0 ∷ 2 ∷ []) i 0) ≡ sample)
-    × (fields_of 2 sample ≡ given record { genus = Some 15; lowest = None; highest = Some 40; word = Some 0x7fff; written = Some 0x0102030405060708; finished = false })
+    × (fields_of 2 sample ≡ given record { map = 0x9d; genus = Some 15; lowest = None; highest = Some 40; word = Some 0x7fff; written = Some 0x0102030405060708; finished = false })
 unfolding laid_before joined bytes_of fields_of has_version version_in knows has_bits version_has member_of every run field_place sum_over field_size field_width bit all_in field_or_none field_in value_of
 known_layout = (refl, refl)
 

@@ -9,9 +9,10 @@ use Rattle.job_format.specs.declared.Fields.{Fields}
 unfoldable pub field_or_none : List ℕ → ℕ → Option ℕ
 field_or_none job i = if bit (map_in job) i then Some (field_in job i) else None
 
--- the fields of a job, and whether the finished mark stands
+-- the bit map and the fields of a job, and whether the finished mark stands
 unfoldable pub all_in : List ℕ → Fields
 all_in job = record {
+  map = map_in job;
   genus = field_or_none job 0;
   lowest = field_or_none job 1;
   highest = field_or_none job 2;

@@ -11,9 +11,10 @@ ghost use Rattle.job_format.specs.Fields.{field_or_none, all_in, knows, fields_o
 
 use answers::Refusal;
 
-// The fields of a job, each where its bit stands.
+// The bit map of a job, and its fields, each where its bit stands.
 #[derive(Clone, Copy, Debug, PartialEq, Eq)]
 pub struct Fields {
+    pub map: u8,
     pub genus: Option<u8>,
     pub lowest: Option<u8>,
     pub highest: Option<u8>,
@@ -30,7 +31,8 @@ fn form_of(bit: usize, version: u8) -> Option<usize>
     match bit {
         0..=2 => Some(1),
         3 => Some(8),
-        4 if 2 <= version => Some(8),
+        4 if version < 2 => None,
+        4 => Some(8),
         5 => Some(0),
         7 => Some(1),
         _ => None,
@@ -155,22 +157,24 @@ fn byte_in(job: &[u8], at: usize) -> Option<u8>
     }
 }
 
-// The fields of a job that is as long as its bit map says.
+// The bit map and the fields of a job that is as long as its bit map says.
 fn all_in(job: &[u8]) -> Fields
     requires { length job.now ≡ job_length (map_in job.now) }
     ensures { result ≡ all_in job.now }
 {
+    let map = job[0];
     Fields {
+        map,
         genus: byte_in(job, 0),
         lowest: byte_in(job, 1),
         highest: byte_in(job, 2),
         word: word_in(job, 3),
         written: word_in(job, 4),
-        finished: stands(job[0], 5),
+        finished: stands(map, 5),
     }
 }
 
-// Reads the fields of a job of version 1 or 2.
+// Reads the bit map and the fields of a job of version 1 or 2.
 #[tactic(auto, using(crate::proofs::Format::has_map), unfolding(crate::specs::Fields::fields_of))]
 pub fn fields_from(job: &[u8]) -> Result<Fields, Refusal>
     ensures { answered result ≡ fields_of 2 job.now }
@@ -188,14 +192,17 @@ pub fn fields_from(job: &[u8]) -> Result<Fields, Refusal>
     Ok(all_in(job))
 }
 
-// Writes a number of lowest bytes of a value from the place `at` on, and gives the place after them.
+// Writes a number of lowest bytes of a value from the place `at` on, and gives the place after them. It is a loop, as a copy of so many bytes
+// would be a call of memcpy, which the library for C does not ask for.
 fn put_value(value: u64, size: usize, at: usize, out: &mut [u8]) -> usize
     requires size_bound { size ≤ 8 }
     requires size_in_bounds { at + size ≤ length out.old }
     ensures { (out.new ≡ fronted (take at out.old ++ bytes_of size value) out.old) × (result ≡ at + size) }
 {
     let end = at + size;
-    out[at..end].copy_from_slice(&value.to_le_bytes()[..size]);
+    for (i, place) in out[at..end].iter_mut().enumerate() {
+        *place = ((value >> (8 * i)) % 256) as u8;
+    }
     end
 }
 

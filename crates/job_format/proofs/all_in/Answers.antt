@@ -11,6 +11,7 @@ bounds-job-0 c = omega (arith, c.requires, place_pos (map_in c.args.job.now) 7)
 pub returns : goal.returns
 unfolding all_in
 returns c = λ i. record {
+  map = map_in c.args.job.now;
   genus = c.byte_in.ensures i;
   lowest = c.byte_in-2.ensures i;
   highest = c.byte_in-3.ensures i;

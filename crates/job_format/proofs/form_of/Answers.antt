@@ -12,11 +12,11 @@ returns-in-3 c = rw c.in-3.is
 
 pub returns-in-4 : goal.returns-in-4
 unfolding field_width version_has member_of every
-returns-in-4 c = rw (c.in-4.is, le-leb 2 c.args.version (omega arith))
+returns-in-4 c = rw (c.in-4.is, lt-leb 2 c.args.version (omega arith))
 
-pub returns-in_default : goal.returns-in_default
+pub returns-in-4-2 : goal.returns-in-4-2
 unfolding field_width version_has member_of every
-returns-in_default c = rw (c.in-4.is, lt-leb 2 c.args.version (omega arith))
+returns-in-4-2 c = rw (c.in-4.is, le-leb 2 c.args.version (omega arith))
 
 pub returns-in-5 : goal.returns-in-5
 unfolding field_width version_has member_of every
@@ -29,5 +29,5 @@ pub returns-in-7 : goal.returns-in-7
 unfolding field_width version_has member_of every
 returns-in-7 c = rw c.in-7.is
 
-pub returns-in_default-2 : goal.returns-in_default-2
-returns-in_default-2 c = let (none, lacking) = no_bits c.args.version c.args.bit (omega arith) (omega arith) (omega arith) (omega arith) (omega arith) in rw (sym lacking)
+pub returns-in_default : goal.returns-in_default
+returns-in_default c = let (none, lacking) = no_bits c.args.version c.args.bit (omega arith) (omega arith) (omega arith) (omega arith) (omega arith) in rw (sym lacking)
