@@ -7,7 +7,7 @@ ghost use Rattle.std.specs.Prelude.{◌≡◌, if◌then◌else◌, Some, None};
 ghost use Rattle.std.specs.Option.{option_map};
 ghost use Rattle.answers.specs.Answers.{answered, sought, sought_answered, number_of};
 ghost use Rattle.editor.specs.Answers.{said};
-ghost use Rattle.interface.specs.Interface.{number_in, table_in, found_in, shortest_in, report_in, walk_in, HandedWalk, no_walk, begun_in, unmoved_in, moved_in, saved_in, editor_in, answer_from, unchanged_in, changed_by};
+ghost use Rattle.interface.specs.Interface.{number_in, table_in, found_in, shortest_in, report_in, walk_in, walk_from, HandedWalk, no_walk, begun_in, unmoved_in, moved_in, saved_in, editor_in, answer_from, unchanged_in, changed_by};
 ghost use Rattle.interface.specs.Private.{is_kept, HandedEditor};
 
 use answers::Refusal;
@@ -245,21 +245,28 @@ impl TryFrom<AtlasWalk> for Walk {
         if 1 < walk.finished {
             return Err(Refusal::WalkOutOfOrder);
         }
-        Ok(Walk {
-            genus: walk.genus,
-            word: walk.word,
-            window: Window {
-                lowest: walk.lowest,
-                highest: walk.highest,
-            },
-            finished: walk.finished == 1,
-        })
+        Ok(walk.walk())
     }
 }
 
 impl AtlasWalk {
+    // The walk, with any finished mark: 1 says that it is finished, and any other mark that it is not.
+    pub fn walk(self) -> Walk
+        ensures { result ≡ walk_from self }
+    {
+        Walk {
+            genus: self.genus,
+            word: self.word,
+            window: Window {
+                lowest: self.lowest,
+                highest: self.highest,
+            },
+            finished: self.finished == 1,
+        }
+    }
+
     // What they get where there is no walk.
-    fn none() -> AtlasWalk
+    pub fn none() -> AtlasWalk
         ensures { result ≡ no_walk }
     {
         AtlasWalk {
