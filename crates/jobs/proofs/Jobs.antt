@@ -1,13 +1,14 @@
 -- What the calls of saved jobs answer, question by question. Assumes nothing.
-use Prim.Native.Nat.{ℕ, ◌<◌}
+use Prim.Native.Nat.{ℕ, ◌≤◌, ◌<◌}
 use mathlib.Core.Path.{◌≡◌, refl, sym, ap, ◌∙◌}
 use mathlib.Core.Bool.{Bool, true, false, not, cond, ◌&&◌}
 use Rattle.std.specs.Prelude.{if◌then◌else◌, Option, Some, None, unwrap_or}
 use mathlib.Core.List.{List, []}
 use lib.ListN.{length}
 use lib.Dec.{eqb, leb}
+use native.Mathlib.Omega.{arith}
 use borrow.Author.Tests.{leb-true}
-use Rattle.semigroups.specs.Lists.{none}
+use Rattle.semigroups.specs.Lists.{none, Bytes}
 use Rattle.semigroups.specs.Words.{bit}
 use Rattle.semigroups.proofs.Booleans.{by_value}
 use Rattle.answers.specs.Answers.{Answer, refused, given, ask, unchanged, into_lent}
@@ -19,7 +20,7 @@ use Rattle.walk.proofs.Walks.{standing_in_order}
 use Rattle.job_format.specs.Format.{job_length, value_or, map_in, field_in, has_version, version_in}
 use Rattle.job_format.specs.Fields.{field_or_none, all_in, knows, fields_of}
 use Rattle.job_format.specs.declared.Fields.{Fields}
-use Rattle.job_format.proofs.Format.{laid_length}
+use Rattle.job_format.proofs.Format.{byte_field, laid_length}
 use Rattle.jobs.specs.Jobs.{complete, placed_by, walk_said, saved_of, saved_by, said_by, read_of, map_for, field_for, job_of, write_of}
 use Rattle.jobs.specs.Private.{say, fields_say}
 use Rattle.jobs.specs.declared.Saved.{Saved}
@@ -30,6 +31,10 @@ use Rattle.jobs.specs.declared.Saved.{Saved}
 pub value_or_lt : (absent m : ℕ) (value : ℕ → ℕ) (i k : ℕ) → absent < k → value i < k → value_or absent m value i < k
 unfolding value_or
 value_or_lt absent m value i k low h = by_value (bit m i) (λ e. rw e h) (λ e. rw e low)
+
+-- the multiplicities of a list of bytes are bytes
+pub said_byte : (job : List ℕ) → Bytes job → (i : ℕ) → i ≤ 2 → {absent x : ℕ} → x ≡ value_or absent (map_in job) (field_in job) i → absent < 256 → x < 256
+said_byte job bytes i low {absent} e small = omega (arith, e, value_or_lt absent (map_in job) (field_in job) i 256 small (byte_field job bytes i low))
 
 -- a walk that a call began, with a number written
 abbrev pub with_written : ℕ → Answer Walk → Answer Saved

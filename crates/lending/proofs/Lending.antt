@@ -34,7 +34,7 @@ kept_one x (o, Ok at) = elim (dec_lt at (length o)) [
 ]
 
 -- and when a list is
-kept_all : (l : List ℕ) (t : Lent) → length (put_all l t).0 ≡ length t.0
+pub kept_all : (l : List ℕ) (t : Lent) → length (put_all l t).0 ≡ length t.0
 unfolding put_all
 kept_all [] t = refl
 kept_all (x ∷ l) t = kept_all l (put_one x t) ∙ kept_one x t
@@ -58,6 +58,20 @@ handed_on : (o : List ℕ) (r : Result ℕ NoRoom) (e : NoRoom) {t : Lent} → I
 handed_on o (Ok at) e h same = absurd h
 handed_on o (Err d) e h same = ap (λ (d : NoRoom). (o, Err d)) h ∙ same
 
+-- from a place of the list on, the place after words that all found room is one of the list, or its end
+pub put_within : (l o : List ℕ) (at : ℕ) {out : List ℕ} {next : ℕ} → at ≤ length o → (out, Ok next) ≡ put_all l (o, Ok at) → next ≤ length out
+unfolding put_all
+put_within [] o at {out} {next} room e =
+    let place : ◌≡◌ {A = Result ℕ NoRoom} (Ok next) (Ok at) = ap (λ (t : Lent). t.1) e in
+    let same : next ≡ at = cc in
+    omega (arith, ap (λ (t : Lent). length t.0) e)
+put_within (x ∷ l) o at {out} {next} room e = elim (dec_lt at (length o)) [
+  | yes h ↦ put_within l (set o at x) (at + 1) (omega (arith, length-set o at x)) (e ∙ ap (put_all l) (put_room x o at h))
+  | no h ↦
+      let full : ◌≡◌ {A = Result ℕ NoRoom} (Ok next) (Err record { next = x }) = ap (λ (t : Lent). t.1) (e ∙ ap (put_all l) (put_full x o at (omega arith)) ∙ put_more l o _) in
+      absurd cc
+]
+
 -- l is the words of a and then those of b
 module _ (a b : List ℕ) {l : List ℕ} (parts : l ≡ a ++ b) (o : List ℕ) (at : ℕ) where
   -- to put l is to put those of a, and then those of b
@@ -75,14 +89,15 @@ module _ (a b : List ℕ) {l : List ℕ} (parts : l ≡ a ++ b) (o : List ℕ) (
 -- ---- a loop that puts words
 
 -- what holds at its head: `below` has the words of some bits, `rest` has the bits that are left, and all were left when the list was `lent`, with
--- `from` for its next place: to put the words that are left is to put all
+-- `from` for its next place: to put the words that are left is to put all, and from a place of the list on no place is past its end
 pub record Putting (below : ℕ → List ℕ) (bits : ℕ) (lent : List ℕ) (from rest : ℕ) (out : List ℕ) (at : ℕ) : Type 0 where
+  pub room : from ≤ length lent → at ≤ length out
   pub same : length out ≡ length lent
   pub whole : put_all (below rest) (out, Ok at) ≡ put_all (below bits) (lent, Ok from)
 
 -- it begins with all bits
 pub putting_all : {below : ℕ → List ℕ} {bits : ℕ} {lent : List ℕ} {from : ℕ} → Putting below bits lent from bits lent from
-putting_all = record { same = refl; whole = refl }
+putting_all = record { room = λ h. h; same = refl; whole = refl }
 
 module _ {below : ℕ → List ℕ} {bits from rest at : ℕ} {lent out : List ℕ} (p : Putting below bits lent from rest out at) where
   -- it ends where no word is left
@@ -92,7 +107,7 @@ module _ {below : ℕ → List ℕ} {bits from rest at : ℕ} {lent out : List �
 
   -- it goes on at the same place where a bit has no words
   pub putting_over : (others : ℕ) → below rest ≡ below others → Putting below bits lent from others out at
-  putting_over others same = record { same = p.same; whole = ap (λ (l : List ℕ). put_all l (out, Ok at)) (sym same) ∙ p.whole }
+  putting_over others same = record { room = p.room; same = p.same; whole = ap (λ (l : List ℕ). put_all l (out, Ok at)) (sym same) ∙ p.whole }
 
   -- first are the words of one bit and others has the bits after it
   module _ (first : List ℕ) (others : ℕ) (parts : below rest ≡ first ++ below others) {o : List ℕ} where
@@ -103,6 +118,7 @@ module _ {below : ℕ → List ℕ} {bits from rest at : ℕ} {lent out : List �
     -- else it goes on with the others
     pub putting_on : {next : ℕ} → (o, Ok next) ≡ put_all first (out, Ok at) → Putting below bits lent from others o next
     putting_on h = record {
+      room = λ k. put_within first out at (p.room k) h;
       same = ap (λ (t : Lent). length t.0) h ∙ kept_all first (out, Ok at) ∙ p.same;
       whole = put_follows first (below others) parts out at h ∙ p.whole;
     }
