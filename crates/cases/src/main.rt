@@ -30,7 +30,7 @@ fn write_number_or_none(rt: &impl Print, number: Option<u64>) -> io::Result<()> 
 fn write_found(rt: &impl Print, answer: Result<Option<u64>, Refusal>) -> io::Result<()> {
     match answer {
         Ok(number) => write_number_or_none(rt, number),
-        Err(refusal) => write_refused(rt, refusal),
+        Err(refusal) => write_refused(&mut io::writer(rt), refusal),
     }
 }
 
@@ -38,7 +38,7 @@ fn show_look(rt: &impl Print, word: u64) -> io::Result<()> {
     print!(rt; "look {word}:")?;
     match words::look(word) {
         Ok(report) => write_report(rt, report)?,
-        Err(refusal) => write_refused(rt, refusal)?,
+        Err(refusal) => write_refused(&mut io::writer(rt), refusal)?,
     }
     println!(rt;)
 }
@@ -70,7 +70,7 @@ fn show_opening(rt: &impl Print, word: u64) -> io::Result<()> {
 fn write_table(rt: &impl Print, word: u64) -> io::Result<()> {
     match tables::seed_table(word) {
         Ok(given) => print!(rt; " {} {}", given.table, given.generators),
-        Err(refusal) => write_refused(rt, refusal),
+        Err(refusal) => write_refused(&mut io::writer(rt), refusal),
     }
 }
 
@@ -84,7 +84,7 @@ fn show_table(rt: &impl Print, word: u64) -> io::Result<()> {
 fn show_child(rt: &impl Print, word: u64, element: u64) -> io::Result<()> {
     print!(rt; "child {word} without {element}:")?;
     let answer = tables::child(word, Element(element));
-    write_answer(rt, answer)?;
+    write_answer(&mut io::writer(rt), answer)?;
     if let Ok(child) = answer {
         print!(rt; " table")?;
         write_table(rt, child)?;
@@ -188,7 +188,7 @@ fn show_words(rt: &impl Print, mut walk: Walk) -> io::Result<()> {
         let mut list = [0; 1];
         let written = match walk::batch(&mut walk, &mut list) {
             Ok(written) => written,
-            Err(refusal) => return write_refused(rt, refusal),
+            Err(refusal) => return write_refused(&mut io::writer(rt), refusal),
         };
         if written.count == 1 {
             print!(rt; " {}", list[0])?;
@@ -204,7 +204,7 @@ fn show_words(rt: &impl Print, mut walk: Walk) -> io::Result<()> {
 fn show_begun(rt: &impl Print, begun: Result<Walk, Refusal>) -> io::Result<()> {
     match begun {
         Ok(first) => show_words(rt, first)?,
-        Err(refusal) => write_refused(rt, refusal)?,
+        Err(refusal) => write_refused(&mut io::writer(rt), refusal)?,
     }
     println!(rt;)
 }
@@ -271,7 +271,7 @@ fn searches(rt: &impl Print) -> io::Result<()> {
 
 fn show_grandchildren(rt: &impl Print, word: u64) -> io::Result<()> {
     print!(rt; "grandchildren {word}:")?;
-    write_answer(rt, tables::grandchildren(word))?;
+    write_answer(&mut io::writer(rt), tables::grandchildren(word))?;
     println!(rt;)
 }
 
@@ -336,7 +336,7 @@ fn children(rt: &impl Print) -> io::Result<()> {
 // How many descendants of a genus a word has, and the first of them.
 fn show_descendants(rt: &impl Print, word: u64, genus: u64) -> io::Result<()> {
     print!(rt; "descendants of {word} of genus {genus}:")?;
-    write_answer(rt, counts::count(word, genus))?;
+    write_answer(&mut io::writer(rt), counts::count(word, genus))?;
     print!(rt; " from")?;
     write_found(rt, descendants::first_descendant(word, genus))?;
     println!(rt;)

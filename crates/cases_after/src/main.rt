@@ -29,7 +29,7 @@ fn write_front(rt: &impl Print, list: &[u8], length: usize) -> io::Result<()> {
 // A colon, the answer of a call and the end of the line.
 fn write_end(rt: &impl Print, answer: Result<u64, Refusal>) -> io::Result<()> {
     print!(rt; ":")?;
-    write_answer(rt, answer)?;
+    write_answer(&mut io::writer(rt), answer)?;
     println!(rt;)
 }
 
@@ -105,7 +105,7 @@ fn show_census(rt: &impl Print, genus: u64, size: usize) -> io::Result<()> {
 fn write_change(rt: &impl Print, change: Result<(), Refusal>, editor: &Editor) -> io::Result<()> {
     if let Err(refusal) = change {
         print!(rt; " is")?;
-        write_refused(rt, refusal)?;
+        write_refused(&mut io::writer(rt), refusal)?;
     }
     print!(rt; " holds")?;
     write_front(rt, &editor.bytes, editor.length)?;
@@ -160,7 +160,7 @@ fn show_read(rt: &impl Print, job: &[u8]) -> io::Result<()> {
     print!(rt; ":")?;
     match jobs::read(job) {
         Ok(saved) => write_saved(rt, saved.walk, saved.written)?,
-        Err(refusal) => write_refused(rt, refusal)?,
+        Err(refusal) => write_refused(&mut io::writer(rt), refusal)?,
     }
     println!(rt;)
 }

@@ -18,7 +18,7 @@ fn show_page(rt: &impl Print, mut listing: Listing) -> io::Result<()> {
     let mut out = [0; 200];
     match listing::next_page(&mut listing, &mut out) {
         Ok(page) => write_front(rt, &out, page.bytes),
-        Err(refusal) => console::write_refusal_line(rt, refusal),
+        Err(refusal) => console::write_refusal_line(&mut io::writer(rt), refusal),
     }
 }
 
@@ -26,7 +26,7 @@ fn show_page(rt: &impl Print, mut listing: Listing) -> io::Result<()> {
 fn show_listing(rt: &impl Print, genus: u64) -> io::Result<()> {
     match listing::fresh(genus) {
         Ok(listing) => show_page(rt, listing),
-        Err(refusal) => console::write_refusal_line(rt, refusal),
+        Err(refusal) => console::write_refusal_line(&mut io::writer(rt), refusal),
     }
 }
 
@@ -35,7 +35,7 @@ fn show_header_lines(rt: &impl Print) -> io::Result<()> {
     let mut out = [0; 1024];
     match listing::headers(&mut out) {
         Ok(length) => write_front(rt, &out, length as usize),
-        Err(refusal) => console::write_refusal_line(rt, refusal),
+        Err(refusal) => console::write_refusal_line(&mut io::writer(rt), refusal),
     }
 }
 
@@ -44,14 +44,14 @@ fn show_text(rt: &impl Print, input: &[u8]) -> io::Result<()> {
     match requests::read(input) {
         Ok(Request::Headers) => show_header_lines(rt),
         Ok(Request::Listing(genus)) => show_listing(rt, genus),
-        Err(refusal) => console::write_refusal_line(rt, refusal),
+        Err(refusal) => console::write_refusal_line(&mut io::writer(rt), refusal),
     }
 }
 
 // What the program writes for standard input.
 fn show_input(rt: &(impl Print + Input)) -> io::Result<()> {
     let mut input = [0; 4];
-    let n = console::read_front(rt, &mut input)?;
+    let n = console::read_front(&mut rt.reader(), &mut input)?;
     show_text(rt, &input[..n])
 }
 
@@ -68,7 +68,7 @@ fn show_headers(rt: &impl Print, out: &mut [u8]) -> io::Result<()> {
     let answer = listing::headers(out);
     let places = out.len();
     print!(rt; "headers in {places}:")?;
-    write_answer(rt, answer)?;
+    write_answer(&mut io::writer(rt), answer)?;
     print!(rt; ":")?;
     write_ends(rt, out)?;
     println!(rt;)

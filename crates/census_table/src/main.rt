@@ -121,16 +121,19 @@ fn write_census(rt: &impl Print, genus: u64) -> io::Result<()> {
     };
     match census::census(genus, &mut table.places) {
         Ok(sum) => write_table(rt, genus, &table, sum),
-        Err(refusal) => console::write_refusal_line(rt, refusal),
+        Err(refusal) => console::write_refusal_line(&mut io::writer(rt), refusal),
     }
 }
 
 fn main(rt: HostRuntime) -> io::Result<()> {
     let mut input = [0; 4];
-    let n = console::read_front(&rt, &mut input)?;
+    let n = console::read_front(&mut rt.reader(), &mut input)?;
     match requests::read(&input[..n]) {
-        Ok(Request::Headers) => console::write_refusal_line(&rt, Refusal::MalformedInput),
+        Ok(Request::Headers) => console::write_refusal_line(
+            &mut io::writer(&rt),
+            Refusal::MalformedInput,
+        ),
         Ok(Request::Listing(genus)) => write_census(&rt, genus),
-        Err(refusal) => console::write_refusal_line(&rt, refusal),
+        Err(refusal) => console::write_refusal_line(&mut io::writer(&rt), refusal),
     }
 }

@@ -11,7 +11,7 @@ fn write_headers(rt: &impl Print) -> io::Result<()> {
     let mut lines = [0; 756];
     match listing::headers(&mut lines) {
         Ok(length) => rt.write_all(&lines[..length as usize]),
-        Err(refusal) => console::write_refusal_line(rt, refusal),
+        Err(refusal) => console::write_refusal_line(&mut io::writer(rt), refusal),
     }
 }
 
@@ -26,7 +26,7 @@ fn write_pages(rt: &impl Print, mut listing: Listing) -> io::Result<()> {
                     return Ok(());
                 }
             }
-            Err(refusal) => return console::write_refusal_line(rt, refusal),
+            Err(refusal) => return console::write_refusal_line(&mut io::writer(rt), refusal),
         }
     }
 }
@@ -35,16 +35,16 @@ fn write_pages(rt: &impl Print, mut listing: Listing) -> io::Result<()> {
 fn write_listing(rt: &impl Print, genus: u64) -> io::Result<()> {
     match listing::fresh(genus) {
         Ok(listing) => write_pages(rt, listing),
-        Err(refusal) => console::write_refusal_line(rt, refusal),
+        Err(refusal) => console::write_refusal_line(&mut io::writer(rt), refusal),
     }
 }
 
 fn main(rt: HostRuntime) -> io::Result<()> {
     let mut input = [0; 4];
-    let n = console::read_front(&rt, &mut input)?;
+    let n = console::read_front(&mut rt.reader(), &mut input)?;
     match requests::read(&input[..n]) {
         Ok(Request::Headers) => write_headers(&rt),
         Ok(Request::Listing(genus)) => write_listing(&rt, genus),
-        Err(refusal) => console::write_refusal_line(&rt, refusal),
+        Err(refusal) => console::write_refusal_line(&mut io::writer(&rt), refusal),
     }
 }

@@ -39,10 +39,10 @@ fn odd_size(genus: u64) -> usize {
 fn show_total(rt: &impl Print, genus: u64) -> io::Result<()> {
     print!(rt; "genus {genus}: count")?;
     let count = counts::count(0, genus);
-    write_answer(rt, count)?;
+    write_answer(&mut io::writer(rt), count)?;
     print!(rt; " walked")?;
     let walked = walked(walk::fresh(genus), count.unwrap_or(0), odd_size(genus));
-    write_answer(rt, walked)?;
+    write_answer(&mut io::writer(rt), walked)?;
     println!(rt;)
 }
 
@@ -61,7 +61,10 @@ fn windows(rt: &impl Print) -> io::Result<()> {
             highest: m,
         };
         print!(rt; "genus 20 multiplicity {m}: walked")?;
-        write_answer(rt, walked(walk::fresh_in(20, window), 50000, 7))?;
+        write_answer(
+            &mut io::writer(rt),
+            walked(walk::fresh_in(20, window), 50000, 7),
+        )?;
         println!(rt;)?;
     }
     Ok(())
@@ -135,7 +138,7 @@ fn searches(rt: &impl Print) -> io::Result<()> {
         print!(rt; "search of genus {genus}:")?;
         match walk::fresh(u64::from(genus)) {
             Ok(walk) => search_of(rt, genus, walk)?,
-            Err(refusal) => write_refused(rt, refusal)?,
+            Err(refusal) => write_refused(&mut io::writer(rt), refusal)?,
         }
         println!(rt;)?;
     }
