@@ -20,6 +20,6 @@ abbrev pub refused_text : ℕ → List ℕ
 refused_text n = codes " refused " ++ decimal n
 
 -- what a call answered: the number that it gave, in decimal after a blank, or that it is refused
-abbrev pub answer_text : Result ℕ Refusal → List ℕ
-answer_text (Ok n) = codes " " ++ decimal n
-answer_text (Err refusal) = refused_text (number_of refusal)
+abbrev pub number_text : Result ℕ Refusal → List ℕ
+number_text (Ok n) = codes " " ++ decimal n
+number_text (Err refusal) = refused_text (number_of refusal)

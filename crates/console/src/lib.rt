@@ -6,7 +6,7 @@ ghost use Rattle.std.specs.Prelude.{OnOk};
 ghost use Rattle.std.specs.Io.KnownBytes.{Appends};
 ghost use Rattle.answers.specs.Answers.{number_of};
 ghost use Rattle.listing.specs.Text.{refusal_line};
-ghost use Rattle.console.specs.Console.{ReadsFront, refused_text, answer_text};
+ghost use Rattle.console.specs.Console.{ReadsFront, refused_text, number_text};
 
 use answers::Refusal;
 use std::io;
@@ -50,7 +50,7 @@ pub fn write_refused<W: Write>(out: &mut W, refusal: Refusal) -> io::Result<()>
 
 // Writes the number that a call gave after a blank, or that it is refused.
 pub fn write_answer<W: Write>(out: &mut W, answer: Result<u64, Refusal>) -> io::Result<()>
-    ensures { OnOk result (Appends (W.contents out.old) (W.contents out.new) (answer_text answer)) }
+    ensures { OnOk result (Appends (W.contents out.old) (W.contents out.new) (number_text answer)) }
 {
     match answer {
         Ok(n) => write!(out, " {n}"),
