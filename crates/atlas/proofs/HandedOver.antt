@@ -21,7 +21,7 @@ use Rattle.interface.specs.declared.AtlasNumber.{AtlasNumber}
 use Rattle.interface.specs.declared.AtlasEditor.{AtlasEditor}
 use Rattle.interface.specs.declared.AtlasChanged.{AtlasChanged}
 use Rattle.interface.specs.Interface.{number_in, editor_in, is_answer, answer_from, editor_from, unchanged_in, changed_in, change_in, editor_after}
-use Rattle.interface.specs.Private.{is_kept}
+use Rattle.interface.specs.HandedOver.{is_kept}
 
 -- a state whose answer has another refusal than 8 and 9 is not right
 other_refusal : (s : State) (n : ℕ) → s.answer ≡ refused n → (¬ (n ≡ 8)) → (¬ (n ≡ 9)) → is_right s ≡ false

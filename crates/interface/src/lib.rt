@@ -8,7 +8,7 @@ ghost use Rattle.std.specs.Option.{option_map};
 ghost use Rattle.answers.specs.Answers.{answered, sought, sought_answered, number_of};
 ghost use Rattle.editor.specs.Answers.{said};
 ghost use Rattle.interface.specs.Interface.{number_in, table_in, found_in, shortest_in, report_in, walk_in, walk_from, HandedWalk, no_walk, begun_in, unmoved_in, moved_in, saved_in, editor_in, answer_from, unchanged_in, changed_by};
-ghost use Rattle.interface.specs.Private.{is_kept, HandedEditor};
+ghost use Rattle.interface.specs.HandedOver.{is_kept, HandedEditor};
 
 use answers::Refusal;
 use editor::Editor;
@@ -362,7 +362,7 @@ impl From<Editor> for AtlasEditor {
 }
 
 // The answer of a state that they hand over, if it is one that bytes without 0 are given: a word, or refused 8 or 9 with no value beside it.
-#[tactic(auto, unfolding(crate::specs::Private::is_kept, crate::specs::Interface::answer_from))]
+#[tactic(auto, unfolding(crate::specs::HandedOver::is_kept, crate::specs::Interface::answer_from))]
 fn kept_answer(number: AtlasNumber) -> Option<Result<u64, Refusal>>
     ensures { option_map answered result ≡ (if is_kept number then Some (answer_from number) else None) }
 {
