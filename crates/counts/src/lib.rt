@@ -33,7 +33,7 @@ fn count_node(tree: Subtree) -> u64
 
 // How many there are `left` levels below those children of a node, given by its parts, whose offsets are the bits of `row`, those of row 0 from one
 // on: the sum from a generator on is that child's count plus the sum from the next. A child without generators has none, and is not made. The node
-// and the levels are no `Subtree` here, as numbers go through registers: so the count takes 0.7 of the time (docs/DESIGN-PASS.md).
+// and the levels are no `Subtree` here, as numbers go through registers: so the count takes 0.7 of the time (docs/DESIGN-PASS.md, point 5).
 #[cycle(count_node_sum_from)]
 fn sum_from(word: u64, table: u64, conductor: u64, row: u64, left: u64) -> u64
     requires le_left { 1 ≤ left }
