@@ -123,7 +123,11 @@ fn tally(tree: Subtree, out: &mut [u64])
         3 if n.second_element() < n.conductor => tally_great_grandchildren(tree, out),
         _ => {
             for low in Bits(n.first_row()) {
-                tally(tree.child(low.at), out);
+                let child = Subtree {
+                    node: tree.node.child(low.at),
+                    left: tree.left - 1,
+                };
+                tally(child, out);
             }
         }
     }

@@ -169,7 +169,11 @@ fn resume(tree: Subtree, word: u64, lowest: u8, at: usize, out: &mut [u64]) -> R
     }
     let n = tree.node;
     let d = n.next_offset(word);
-    let next = resume(tree.child(d), word, lowest, at, out)?;
+    let child = Subtree {
+        node: tree.node.child(d),
+        left: tree.left - 1,
+    };
+    let next = resume(child, word, lowest, at, out)?;
     if words::multiplicity_of(n.word) < lowest as u64 {
         return Ok(next);
     }

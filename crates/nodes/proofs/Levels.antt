@@ -1,10 +1,11 @@
 -- Nodes of accepted words: the levels below them, the conductor that they carry, and the number of right generators that their row 0 tells.
 -- Assumes nothing.
-use Rattle.std.proofs.Common.{◌≡◌, ℕ, ◌+◌, ◌^◌, ◌<◌, ◌≤◌, length, sym, refl, ap, ◌∙◌, subst, arith}
+use Rattle.std.proofs.Common.{◌≡◌, ℕ, ◌+◌, ◌^◌, ◌<◌, ◌≤◌, min, length, sym, refl, ap, ◌∙◌, subst, arith}
 use lib.Count.{ones}
 use Rattle.semigroups.specs.Words.{genus, conductor}
 use Rattle.semigroups.specs.Positions.{positions}
 use Rattle.semigroups.specs.Elements.{right_generators}
+use Rattle.semigroups.specs.Tree.{leaves}
 use Rattle.semigroups.proofs.Words.{genus_zero, closed_zero}
 use Rattle.semigroups.proofs.StandingBits.{positions_ones}
 use Rattle.semigroups.proofs.Elements.{conductor_pos}
@@ -25,6 +26,13 @@ pub root_levels : (r : ℕ) → r ≤ 32 → NodeWithLevels r (node_of 0)
 root_levels r h =
     let genus-is = genus_zero in
     accepted_levels r 0 (omega arith) record { closed = closed_zero; few = omega arith } (omega arith)
+
+-- the words at the end of the whole tree down to a genus are those so many levels below the word 0
+pub whole_tree : {g left : ℕ} {n : Node} → g ≤ 32 → (n ≡ node_of 0) × (left ≡ min g 32) → leaves left n.word ≡ leaves g 0
+unfolding node_of
+whole_tree {g} {left} few (root, levels) =
+    let same : left ≡ g = omega (arith, levels, few) in
+    rw same (ap (λ (n : Node). leaves g n.word) root)
 
 -- a word with levels below its node is accepted
 pub node_accepted : (r : ℕ) (n : Node) → NodeWithLevels r n → Accepted n.word

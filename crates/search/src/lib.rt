@@ -93,7 +93,11 @@ fn first_by_child(tree: Subtree, rest: u64, gap: u64) -> Option<u64>
         if gap < e.0 + left {
             return None;
         }
-        let found = first_below(tree.child(low.at), gap);
+        let child = Subtree {
+            node: tree.node.child(low.at),
+            left,
+        };
+        let found = first_below(child, gap);
         if found.is_some() {
             return found;
         }

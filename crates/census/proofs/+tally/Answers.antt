@@ -1,11 +1,11 @@
 -- The proof of `census::tally`, which calls itself. Assumes nothing.
-use Rattle.std.proofs.Common.{◌≡◌, ℕ, ◌-◌, ◌≤◌, refl, ap, ◌∙◌, arith}
+use Rattle.std.proofs.Common.{ℕ, ◌-◌, ◌≤◌, refl, ap, ◌∙◌, arith}
 use mathlib.Core.List.Memᴰ
 use Rattle.semigroups.specs.Tree.{leaves}
 use Rattle.nodes.specs.Nodes.{first_row}
 use Rattle.nodes.specs.Branches.{branches}
 use Rattle.nodes.proofs.Levels.{node_conductor}
-use Rattle.nodes.proofs.Branches.{branches_none, offset_first, Row, row_branches, FirstChild, first_child}
+use Rattle.nodes.proofs.Branches.{branches_none, Row, row_branches, FirstChild, first_child}
 use Rattle.census.specs.Private.{one_more_at, census_place, tallied}
 use Rattle.census.proofs.Tallies.{InParts, tally_begins, room_first, tally_again, tally_ends}
 use Rattle.census.proofs.WordPlaces.{leaf_place}
@@ -21,19 +21,17 @@ positive c = elim c.in_default.branch [
 ]
 
 -- the child at the lowest offset, and the others
-first : {t : ℕ} (c : After-child t) → FirstChild (c.args.tree.left - 1) c.args.tree.node c.child.result.node c.loop-low.low-iterator.0 c.in-Some.low.rest
+first : {t : ℕ} (c : After-child t) → FirstChild (c.args.tree.left - 1) c.args.tree.node c.child.result c.loop-low.low-iterator.0 c.in-Some.low.rest
 first c =
     let tree = c.args.tree in
     let (some, offsets, now) = c.loop-low.invariant in
     let row : Row tree.left tree.node (first_row tree.node) = row_branches _ _ (omega (arith, some)) tree.levels refl in
-    first_child _ _ row.node_levels offsets c.in-Some.ensures.steps.0 c.child.ensures.0
+    first_child _ _ row.node_levels offsets c.in-Some.ensures.steps.0 c.child.ensures
 
 -- the words below them
 parts : {t : ℕ} (c : After-child t) → let w = c.args.tree.node.word in let r = c.args.tree.left - 1 in
-    InParts (leaves c.child.result.left c.child.result.node.word) (branches r w c.in-Some.low.rest) (branches r w c.loop-low.low-iterator.0)
-parts c =
-    let same : c.child.result.left ≡ c.args.tree.left - 1 = omega (arith, c.child.ensures.1) in
-    record { split = rw same (first c).parts }
+    InParts (leaves r c.child.result.word) (branches r w c.in-Some.low.rest) (branches r w c.loop-low.low-iterator.0)
+parts c = record { split = (first c).parts }
 
 pub add_one-requires : goal.add_one-requires
 unfolding leaves
@@ -60,12 +58,12 @@ loop-low-init t c =
     let row : Row tree.left tree.node c.first_row.result = row_branches _ _ (omega (arith, some)) tree.levels c.first_row.ensures in
     rw c.into_iter-low-iterator.ensures.into_iter_gives (some, row.offsets, tally_begins census_place row.all c.requires.room_for)
 
-pub child-requires-clause-generator : goal.child-requires-clause-generator
-child-requires-clause-generator t c = offset_first (c.args.tree.left - 1) _ c.in-Some.ensures.steps.0 c.loop-low.invariant.1
+pub invariant_of-child : goal.invariant_of-child
+invariant_of-child t c = record { levels = (first (goal.at.invariant_of-child t c).After-child).node_levels }
 
 pub tally-requires : goal.tally-requires
 tally-requires t c =
-    (omega (arith, c.child.ensures.1), room_first c.loop-low.invariant.2 (parts (goal.at.tally-requires t c).After-child))
+    (omega (arith, c.loop-low.invariant.0), room_first c.loop-low.invariant.2 (parts (goal.at.tally-requires t c).After-child))
 
 pub loop-low-preserved : goal.loop-low-preserved
 loop-low-preserved t c =

@@ -1,5 +1,5 @@
 -- `census::census` meets its contract. Assumes nothing.
-use Rattle.std.proofs.Common.{◌≡◌, ℕ, ◌≤◌, List, map, length, sym, ap, ◌∙◌, arith}
+use Rattle.std.proofs.Common.{◌≡◌, ℕ, ◌≤◌, min, List, map, length, sym, ap, ◌∙◌, arith}
 use mathlib.Core.Path.{ap₂, subst₂}
 use Rattle.semigroups.specs.Lists.{fronted}
 use Rattle.semigroups.specs.Tree.{leaves}
@@ -9,6 +9,7 @@ use Rattle.semigroups.proofs.Leaves.{genus_list_leaves}
 use Rattle.answers.specs.Answers.{giving}
 use Rattle.nodes.specs.Nodes.{node_of}
 use Rattle.nodes.specs.declared.Node.{Node}
+use Rattle.nodes.proofs.Levels.{whole_tree}
 use Rattle.census.specs.Census.{census_places}
 use Rattle.census.specs.Private.{census_place, tallied, RoomFor, conductors_in}
 use Rattle.census.proofs.Places.{places_length, census_tallied}
@@ -18,9 +19,8 @@ use Rattle.census.proofs.census.Goals as goal
 use Rattle.census.proofs.census.Goals.{After-tally}
 
 -- the words at the end of the whole tree are those of the genus list
-words_below : {g left : ℕ} {n : Node} → g ≤ 32 → (n ≡ node_of 0) × (left ≡ g) → leaves left n.word ≡ genus_list g
-unfolding node_of
-words_below {g} few (root, levels) = rw levels (ap (λ (n : Node). leaves g n.word) root ∙ sym (genus_list_leaves g few))
+words_below : {g left : ℕ} {n : Node} → g ≤ 32 → (n ≡ node_of 0) × (left ≡ min g 32) → leaves left n.word ≡ genus_list g
+words_below {g} few whole = whole_tree few whole ∙ sym (genus_list_leaves g few)
 
 pub tally-requires : goal.tally-requires
 tally-requires c =

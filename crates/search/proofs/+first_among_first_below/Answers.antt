@@ -8,7 +8,6 @@ use Rattle.std.specs.Prelude.{Option, Some, None, is_some, true, false}
 use Rattle.semigroups.specs.Lists.{keep}
 use Rattle.semigroups.specs.Words.{conductor}
 use Rattle.semigroups.specs.Elements.{right_generators}
-use Rattle.semigroups.specs.Tree.{leaves}
 use Rattle.answers.specs.Answers.{sought}
 use Rattle.nodes.specs.Levels.{NodeWithLevels}
 use Rattle.nodes.specs.declared.Node.{Node}
@@ -19,7 +18,7 @@ use Rattle.nodes.proofs.Branches.{TakenOff, branches_none, offset_first, child_o
 use Rattle.search.specs.Private.{with_largest_gap}
 use Rattle.search.proofs.Cuts.{in_first, in_second, cut_by_sum, cut_by_room}
 use Rattle.search.proofs.+first_among_first_below.Goals as goal
-use Rattle.search.proofs.+first_among_first_below.Goals.{first_by_child-After-first_below-found, first_below-After-first_row}
+use Rattle.search.proofs.+first_among_first_below.Goals.{first_below-After-first_row}
 
 -- what an `Option` says that has a number, and one that has none
 found_one : (o : Option ℕ) → is_some o ≡ true → (x : ℕ) × (sought o ≡ some x)
@@ -56,46 +55,37 @@ module _ {n : Node} {left bits at rest : ℕ} (two : 2 ≤ left) (levels : NodeW
   too_far : {f e : ℕ} → e ≡ min (n.conductor + at) 18446744073709551615 → f < e + (left - 1) → head? (with_largest_gap f (branches (left - 1) n.word bits)) ≡ none
   too_far is far = ap head? (cut_by_room _ _ _ (levels_below _ _ below) offsets low (omega (arith, element is)))
 
--- the first of the words below the child, by the levels of its parent
-found_below : {t : ℕ} (c : first_by_child-After-first_below-found t)
-    → sought c.first_below-found.result ≡ head? (with_largest_gap c.args.gap (leaves (c.args.tree.left - 1) c.child.result.node.word))
-found_below c =
-    let same : c.child.result.left ≡ c.args.tree.left - 1 = omega (arith, c.child.ensures.1) in
-    rw same at c.first_below-found.ensures
-
 pub first_by_child-returns-then-gap-e : goal.first_by_child-returns-then-gap-e
 first_by_child-returns-then-gap-e t c =
     let inv = c.loop-low.invariant in
     sym (too_far c.requires.left c.args.tree.levels inv.0 c.in-Some.ensures.steps.0 c.at_offset-e.ensures (omega arith)) ∙ inv.1
 
-pub first_by_child-child-requires-clause-generator : goal.first_by_child-child-requires-clause-generator
-first_by_child-child-requires-clause-generator t c =
-    generator c.requires.left c.args.tree.levels c.loop-low.invariant.0 c.in-Some.ensures.steps.0
+pub first_by_child-invariant_of-child : goal.first_by_child-invariant_of-child
+first_by_child-invariant_of-child t c =
+    record { levels = (first c.requires.left c.args.tree.levels c.loop-low.invariant.0 c.in-Some.ensures.steps.0 c.child.ensures).node_levels }
 
 pub first_by_child-first_below-found-requires : goal.first_by_child-first_below-found-requires
 first_by_child-first_below-found-requires t c =
     let offsets = c.loop-low.invariant.0 in
     let low = c.in-Some.ensures.steps.0 in
     let near = element c.requires.left c.args.tree.levels offsets low c.at_offset-e.ensures in
-    let next = conductor_is c.requires.left c.args.tree.levels offsets low c.child.ensures.0 in
-    (omega (arith, c.child.ensures.1), (omega (arith, c.child.ensures.1), omega (arith, near, next, c.requires.conductor_le_gap)))
+    let next = conductor_is c.requires.left c.args.tree.levels offsets low c.child.ensures in
+    (omega arith, (omega arith, omega (arith, near, next, c.requires.conductor_le_gap)))
 
 pub first_by_child-returns-then-is_some : goal.first_by_child-returns-then-is_some
 first_by_child-returns-then-is_some t c =
     let inv = c.loop-low.invariant in
-    let first = first c.requires.left c.args.tree.levels inv.0 c.in-Some.ensures.steps.0 c.child.ensures.0 in
+    let first = first c.requires.left c.args.tree.levels inv.0 c.in-Some.ensures.steps.0 c.child.ensures in
     let (x, found) = found_one c.first_below-found.result (sym c.is_some.ensures ∙ c.if-is_some.true) in
-    let below = found_below (goal.at.first_by_child-returns-then-is_some t c).After-first_below-found in
-    found ∙ sym (in_first _ _ _ first.parts (sym below ∙ found)) ∙ inv.1
+    found ∙ sym (in_first _ _ _ first.parts (sym c.first_below-found.ensures ∙ found)) ∙ inv.1
 
 pub first_by_child-loop-low-preserved : goal.first_by_child-loop-low-preserved
 first_by_child-loop-low-preserved t c =
     let inv = c.loop-low.invariant in
     let (low, left) = c.in-Some.ensures.steps in
-    let first = first c.requires.left c.args.tree.levels inv.0 low c.child.ensures.0 in
+    let first = first c.requires.left c.args.tree.levels inv.0 low c.child.ensures in
     let found = found_none c.first_below-found.result (sym c.is_some.ensures ∙ c.if-is_some.false) in
-    let below = found_below (goal.at.first_by_child-loop-low-preserved t c).After-first_below-found in
-    rw left (first.others, sym (in_second _ _ _ first.parts (sym below ∙ found)) ∙ inv.1)
+    rw left (first.others, sym (in_second _ _ _ first.parts (sym c.first_below-found.ensures ∙ found)) ∙ inv.1)
 
 pub first_by_child-returns : goal.first_by_child-returns
 unfolding with_largest_gap keep
