@@ -124,7 +124,7 @@ fn tally(tree: Subtree, out: &mut [u64])
         _ => {
             for low in Bits(n.first_row()) {
                 let child = Subtree {
-                    node: tree.node.child(low.at),
+                    node: n.child(low.at),
                     left: tree.left - 1,
                 };
                 tally(child, out);

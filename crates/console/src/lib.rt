@@ -28,32 +28,32 @@ pub fn read_front<R: Read>(reader: &mut R, buffer: &mut [u8]) -> io::Result<usiz
 }
 
 // Writes the line of a refusal.
-pub fn write_refusal_line<W: Write>(out: &mut W, refusal: Refusal) -> io::Result<()>
+pub fn write_refusal_line<W: Write>(writer: &mut W, refusal: Refusal) -> io::Result<()>
     ensures { OnOk result
-        (Appends (W.contents out.old) (W.contents out.new) (refusal_line (number_of refusal))) }
+        (Appends (W.contents writer.old) (W.contents writer.new) (refusal_line (number_of refusal))) }
 {
     let mut line = [0; 11];
     match listing::refusal_line(refusal, &mut line) {
-        Ok(length) => out.write_all(&line[..length as usize]),
+        Ok(length) => writer.write_all(&line[..length as usize]),
         // The line has its places.
         Err(_) => unreachable!(),
     }
 }
 
 // Writes that a call is refused, with the number of its refusal, after a blank.
-pub fn write_refused<W: Write>(out: &mut W, refusal: Refusal) -> io::Result<()>
+pub fn write_refused<W: Write>(writer: &mut W, refusal: Refusal) -> io::Result<()>
     ensures { OnOk result
-        (Appends (W.contents out.old) (W.contents out.new) (refused_text (number_of refusal))) }
+        (Appends (W.contents writer.old) (W.contents writer.new) (refused_text (number_of refusal))) }
 {
-    write!(out, " {refusal}")
+    write!(writer, " {refusal}")
 }
 
 // Writes the number that a call gave after a blank, or that it is refused.
-pub fn write_answer<W: Write>(out: &mut W, answer: Result<u64, Refusal>) -> io::Result<()>
-    ensures { OnOk result (Appends (W.contents out.old) (W.contents out.new) (number_text answer)) }
+pub fn write_answer<W: Write>(writer: &mut W, answer: Result<u64, Refusal>) -> io::Result<()>
+    ensures { OnOk result (Appends (W.contents writer.old) (W.contents writer.new) (number_text answer)) }
 {
     match answer {
-        Ok(n) => write!(out, " {n}"),
-        Err(refusal) => write_refused(out, refusal),
+        Ok(n) => write!(writer, " {n}"),
+        Err(refusal) => write_refused(writer, refusal),
     }
 }

@@ -170,7 +170,7 @@ fn resume(tree: Subtree, word: u64, lowest: u8, at: usize, out: &mut [u64]) -> R
     let n = tree.node;
     let d = n.next_offset(word);
     let child = Subtree {
-        node: tree.node.child(d),
+        node: n.child(d),
         left: tree.left - 1,
     };
     let next = resume(child, word, lowest, at, out)?;

@@ -73,7 +73,7 @@ fn skip(i: usize, place: usize) -> usize
 }
 
 // The first `length` bytes without that at `place`, in sixteen places: those behind it move up, and the place that is freed becomes 0. It is a loop,
-// as a copy of so many bytes would be a call of memcpy, which the library for C does not ask for.
+// as a copy would be a call of memcpy, which the library for C does not need.
 fn without_place(bytes: [u8; 16], length: usize, place: usize) -> [u8; 16]
     requires { (place < length) × (length ≤ 16) }
     ensures { result ≡ in_sixteen (without_place place (take length bytes)) }

@@ -67,7 +67,7 @@ mark_in false = 0
 abbrev pub walk_in : Walk → AtlasWalk
 walk_in w = record { genus = w.genus; word = w.word; lowest = w.window.lowest; highest = w.window.highest; finished = mark_in w.finished }
 
--- and as they hand it over, with a finished mark of 0 or 1
+-- and as they hand it over, with any finished mark: 1 says that it is finished, and any other that it is not
 abbrev pub walk_from : AtlasWalk → Walk
 walk_from w = record { genus = w.genus; word = w.word; window = record { lowest = w.lowest; highest = w.highest }; finished = eqb w.finished 1 }
 

@@ -266,7 +266,7 @@ impl AtlasWalk {
     }
 
     // What they get where there is no walk.
-    pub fn none() -> AtlasWalk
+    pub fn no_walk() -> AtlasWalk
         ensures { result ≡ no_walk }
     {
         AtlasWalk {
@@ -287,7 +287,7 @@ impl From<Result<Walk, Refusal>> for AtlasBegun {
         match answer {
             Err(refusal) => AtlasBegun {
                 refused: refusal.number(),
-                walk: AtlasWalk::none(),
+                walk: AtlasWalk::no_walk(),
             },
             Ok(walk) => AtlasBegun {
                 refused: 0,
@@ -335,7 +335,7 @@ impl From<Result<Saved, Refusal>> for AtlasSaved {
         match answer {
             Err(refusal) => AtlasSaved {
                 refused: refusal.number(),
-                walk: AtlasWalk::none(),
+                walk: AtlasWalk::no_walk(),
                 written: 0,
             },
             Ok(saved) => AtlasSaved {

@@ -112,7 +112,7 @@ fn version_of(job: &[u8]) -> u8
     if stands(job[0], 7) { job[1] } else { 1 }
 }
 
-// The number whose bytes, lowest byte first, are so many from a place on.
+// The number whose bytes, lowest byte first, are so many from a place on. Where it is called the compiler knows how many, so that the copy is no call.
 fn value_at(job: &[u8], place: usize, size: usize) -> u64
     requires size_bound { size ≤ 8 }
     requires size_in_bounds { place + size ≤ length job.now }
@@ -192,8 +192,8 @@ pub fn fields_from(job: &[u8]) -> Result<Fields, Refusal>
     Ok(all_in(job))
 }
 
-// Writes a number of lowest bytes of a value from the place `at` on, and gives the place after them. It is a loop, as a copy of so many bytes
-// would be a call of memcpy, which the library for C does not ask for.
+// Writes a number of lowest bytes of a value from the place `at` on, and gives the place after them. It is a loop: the number of bytes is known at run
+// time alone, so that a copy would be a call of memcpy, which the library for C does not need.
 fn put_value(value: u64, size: usize, at: usize, out: &mut [u8]) -> usize
     requires size_bound { size ≤ 8 }
     requires size_in_bounds { at + size ≤ length out.old }

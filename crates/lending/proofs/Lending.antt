@@ -89,7 +89,8 @@ module _ (a b : List ℕ) {l : List ℕ} (parts : l ≡ a ++ b) (o : List ℕ) (
 -- ---- a loop that puts words
 
 -- what holds at its head: `below` has the words of some bits, `rest` has the bits that are left, and all were left when the list was `lent`, with
--- `from` for its next place: to put the words that are left is to put all, and from a place of the list on no place is past its end
+-- `from` for its next place: to put the words that are left is to put all, and where
+-- `from` is not past the end of the list, `at` is not either
 pub record Putting (below : ℕ → List ℕ) (bits : ℕ) (lent : List ℕ) (from rest : ℕ) (out : List ℕ) (at : ℕ) : Type 0 where
   pub room : from ≤ length lent → at ≤ length out
   pub same : length out ≡ length lent

@@ -58,5 +58,5 @@ unreachable-requires g c = not_refused _ _ _ _ _ c.refusal_line.ensures (omega a
 
 pub returns : goal.returns
 returns g c =
-    subst (λ (text : List ℕ). OnOk c.write_all.result (Appends (g.W.Write.contents c.args.out.now) (g.W.Write.contents c.write_all.new.self) text))
+    subst (λ (text : List ℕ). OnOk c.write_all.result (Appends (g.W.Write.contents c.args.writer.now) (g.W.Write.contents c.write_all.new.self) text))
     (line_given _ _ _ _ c.in-Ok.ensures) c.write_all.ensures.bytes
