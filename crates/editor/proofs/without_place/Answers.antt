@@ -20,9 +20,9 @@ long b n place within there =
 abbrev zeros : List ℕ
 zeros = replicate 16 0
 
--- as many places of the sixteen zeros are written
-places : (n : ℕ) → n ≤ 16 → length (take (n - 1) zeros) ≡ n - 1
-places n few = length-take-le (n - 1) zeros (omega arith)
+-- as many of sixteen places are written, whatever stands in them
+places : (l : List ℕ) (n : ℕ) → length l ≡ 16 → n ≤ 16 → length (take (n - 1) l) ≡ n - 1
+places l n sixteen few = length-take-le (n - 1) l (omega arith)
 
 pub loop-i-init : goal.loop-i-init
 unfolding fronted
@@ -36,12 +36,14 @@ loop-i-preserved c =
     let i : ℕ = c.loop-i.i in
     let l : List ℕ = without_place place (take n b) in
     let number = long b n place (omega arith) (omega arith) in
-    let held : skipping i place < n = skipping_lt i place n (omega (arith, places n (omega arith))) in
+    let written = places zeros n refl (omega arith) in
+    let other = places b n (omega arith) (omega arith) in
+    let held : skipping i place < n = skipping_lt i place n (omega arith) in
     let value : get_or b c.skip.result 0 ≡ get_or l i 0 =
     ap (λ (k : ℕ). get_or {A = ℕ} b k 0) c.skip.ensures
     ∙ sym (without_place_entry (take n b) place (omega (arith, length-take-le n b (omega arith))) i ∙ get_or-take n b (skipping i place) 0 held) in
     ap₂ (λ (o : List ℕ) (x : ℕ). set o i x) c.loop-i.invariant value
-    ∙ fronted_next l (take (n - 1) zeros) i (omega (arith, places n (omega arith))) (omega (arith, places n (omega arith)))
+    ∙ fronted_next l _ i (omega arith) (omega arith)
 
 pub returns : goal.returns
 unfolding fronted
@@ -49,6 +51,7 @@ returns c =
     let n : ℕ = c.args.length in
     let l : List ℕ = without_place c.args.place (take n c.args.bytes) in
     let number = long c.args.bytes n c.args.place (omega arith) (omega arith) in
-    let all : c.loop-i.moved-items ≡ l =
-    c.loop-i.invariant ∙ fronted_all l (take (n - 1) zeros) c.loop-i.i (omega (arith, places n (omega arith))) (omega (arith, places n (omega arith))) in
+    let written = places zeros n refl (omega arith) in
+    let other = places c.args.bytes n (omega arith) (omega arith) in
+    let all : c.loop-i.moved-items ≡ l = c.loop-i.invariant ∙ fronted_all l _ c.loop-i.i (omega arith) (omega arith) in
     ap₂ (λ (k : List ℕ) (m : ℕ). k ++ drop m zeros) all (sym number)
