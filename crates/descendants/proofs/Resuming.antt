@@ -17,6 +17,7 @@ use Rattle.nodes.specs.Nodes.{child_node, first_row, next_offset}
 use Rattle.nodes.specs.Levels.{Levels, NodeWithLevels}
 use Rattle.nodes.specs.Branches.{branches, Offsets}
 use Rattle.nodes.specs.declared.Node.{Node}
+use Rattle.nodes.specs.declared.Subtree.{Subtree}
 use Rattle.nodes.proofs.Nodes.{next_offset_is}
 use Rattle.nodes.proofs.Levels.{node_conductor}
 use Rattle.nodes.proofs.Branches.{leaves_row, offsets_row, child_of_generator, leaf_below, levels_below, first_row_offsets, child_word_is}
@@ -120,3 +121,12 @@ next_child r n h at v m {d} e =
           ap (λ (k : ℕ). on_from v (leaves k w)) levels-here ∙ found.on
           ∙ ap (λ (u : ℕ). on_from v (leaves (r - 1) u) ++ branches (r - 1) w (above (first_row n) d)) same;
     }
+
+-- ---- the part of the tree below a child
+
+-- its words are those below the child, a level less deep
+pub child_leaves : (tree : Subtree) (d : ℕ) (child : Subtree) → (child.node ≡ child_node tree.node d) × (child.left + 1 ≡ tree.left)
+    → leaves (tree.left - 1) (child_node tree.node d).word ≡ leaves child.left child.node.word
+child_leaves tree d child e =
+    let below : tree.left - 1 ≡ child.left = omega (arith, e.1) in
+    ap (λ (k : ℕ). leaves k (child_node tree.node d).word) below ∙ ap (λ (m : Node). leaves child.left m.word) (sym e.0)
